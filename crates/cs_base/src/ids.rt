@@ -24,6 +24,9 @@ impl Model for NodeId {
 }
 
 impl NodeId {
+    /// Node 0, which every cluster has.
+    pub const FIRST: NodeId = NodeId { number: 0 };
+
     /// The node of this number, if a cluster can have it.
     pub fn new(number: u8) -> Option<NodeId>
         ensures valid { IsSome result ↔ (number ≤ 6) }

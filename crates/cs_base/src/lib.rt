@@ -2,12 +2,14 @@
 #![tactic(auto)]
 
 mod bytes;
+mod failed;
 mod ids;
 mod items;
 mod level;
 mod text;
 
 pub use bytes::Bytes;
+pub use failed::Failed;
 pub use ids::{Micros, NodeId, ReqId};
 pub use items::Items;
 pub use level::Level;

@@ -1,0 +1,6 @@
+//! Which of two changes wins.
+#![tactic(auto)]
+
+mod order;
+
+pub use order::{beats, covers, outranks};

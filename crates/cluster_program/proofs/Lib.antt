@@ -1,0 +1,5 @@
+pub mod ProgramLaws
+pub mod RowLaws
+pub mod RunLaws
+pub mod ShownLaws
+pub mod StreamLaws

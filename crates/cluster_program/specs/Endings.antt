@@ -1,0 +1,64 @@
+-- How the program ends.
+use Rattle.std.specs.Prelude.{◌≡◌, ◌⊎◌, ℕ, List, [], ◌∷◌, ◌++◌, Option, codes, Ok, Err}
+use Rattle.std.specs.Fmt.{decimal}
+use Rattle.cs_base.specs.Faults.{HasRisen}
+use Rattle.fault_script.specs.declared.script.Request.{Request}
+use Rattle.fault_script.specs.declared.script.ScriptError.{ScriptError}
+use Rattle.fault_script.specs.declared.script.ScriptError.TheVariants as refused
+use Rattle.fault_script.specs.declared.reader.ParseError.{ParseError}
+use Rattle.fault_script.specs.declared.reader.ParseError.TheVariants as parse
+use Rattle.fault_script.specs.Script.{script_of}
+use Rattle.cluster_program.specs.declared.program.Refusal.{Refusal}
+use Rattle.cluster_program.specs.declared.program.Refusal.TheVariants as refusal
+use Rattle.cluster_program.specs.declared.program.Status.{Status}
+use Rattle.cluster_program.specs.declared.program.Status.TheVariants as status
+use Rattle.cluster_program.specs.declared.streams.ReadError.{ReadError}
+use Rattle.cluster_program.specs.declared.streams.ReadError.TheVariants as read
+use Rattle.cluster_program.specs.Runs.{IsRunInPrint}
+use Rattle.cluster_program.specs.Streams.{WritesAll, WritesFront}
+
+-- the words of the one command
+abbrev pub command : List (List ℕ)
+command = codes "script" ∷ []
+
+-- the bytes are a script, and the text is the printed chronicle of a run of it
+abbrev pub IsRunOf : List ℕ → List ℕ → Type 0
+IsRunOf bytes text = (requests : List Request) × (script_of bytes ≡ Ok requests) × IsRunInPrint requests text
+
+abbrev pub error_line : ScriptError → List ℕ
+error_line (refused.Head n) = decimal n ++ codes ": head expected" ++ 10 ∷ []
+error_line (refused.Line n) = decimal n ++ codes ": line not understood" ++ 10 ∷ []
+error_line (refused.Number n) = decimal n ++ codes ": number out of range" ++ 10 ∷ []
+error_line refused.TooLong = codes "script too long" ++ 10 ∷ []
+
+-- what a refusal says of the bytes that were left
+abbrev pub IsRefused : List ℕ → Refusal → Type 0
+IsRefused left (refusal.Script e) = script_of left ≡ Err e
+IsRefused left refusal.ReadFault = Unit {0}
+IsRefused left refusal.NoMemory = Unit {0}
+
+abbrev pub of_read : ReadError → Refusal
+of_read read.Failed = refusal.ReadFault
+of_read read.NoMemory = refusal.NoMemory
+
+abbrev pub of_parse : ParseError → Refusal
+of_parse (parse.Script e) = refusal.Script e
+of_parse parse.NoMemory = refusal.NoMemory
+
+abbrev pub IsRefusalStatus : Status → Type 0
+IsRefusalStatus status.Ok = ⊥
+IsRefusalStatus status.Usage = ⊥
+IsRefusalStatus status.BadScript = Unit {0}
+IsRefusalStatus status.ReadFault = Unit {0}
+IsRefusalStatus status.WriteFault = ⊥
+IsRefusalStatus status.NoMemory = Unit {0}
+
+-- the script is refused, and its line is told
+abbrev pub RefusesScript : Refusal → (List ℕ → Type 0) → Type 0
+RefusesScript (refusal.Script e) Told = Told (error_line e)
+RefusesScript refusal.ReadFault Told = ⊥
+RefusesScript refusal.NoMemory Told = ⊥
+
+-- the line is written last: whole, or a front of it where the sink fails
+abbrev pub LeavesLine : Option (List ℕ) → Option (List ℕ) → ℕ → ℕ → List ℕ → Type 0
+LeavesLine held held' faults faults' line = WritesAll held held' line ⊎ (WritesFront held held' line × HasRisen faults faults')

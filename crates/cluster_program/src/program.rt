@@ -1,0 +1,212 @@
+//! The top call, and how it ends.
+
+ghost use Rattle.std.specs.Prelude.{◌≡◌, ◌≢◌, ◌⊎◌, ◌↔◌, ◌≤◌, ◌++◌, ◌∷◌, [], ℕ, List, Ok, map, codes, Some, Err, IsTrue, IfOk, IfErr, OnOk, IfSome, IsErrOf};
+ghost use Rattle.std.specs.String.{string_bytes};
+ghost use Rattle.cs_base.specs.Faults.{HasRisen};
+ghost use Rattle.fault_script.specs.Script.{script_of};
+ghost use Rattle.fault_script.specs.declared.script.ScriptError.{ScriptError};
+ghost use Rattle.cluster_program.specs.Endings.{command, IsRunOf, LeavesLine, RefusesScript, IsRefusalStatus, IsRefused, of_read, of_parse, error_line as error_line_of};
+ghost use Rattle.cluster_program.specs.Streams.{WritesAll, WritesFront};
+ghost use Rattle.cluster_program.specs.declared.program.Refusal.TheVariants.{NoMemory as RefusalMemory};
+
+use crate::print::push_number;
+use crate::run::run;
+use crate::streams::{ReadError, read_all, write_all};
+use cs_base::Failed;
+use cs_io::{Sink, Source};
+use fault_script::{ParseError, Request, ScriptError, parse};
+use std::alloc::{AllocError, Global};
+
+/// How the program ended.
+#[derive(Clone, Copy, Debug, PartialEq, Eq)]
+pub enum Status {
+    Ok,
+    Usage,
+    BadScript,
+    ReadFault,
+    WriteFault,
+    NoMemory,
+}
+
+impl Status {
+    /// The number that the process ends with.
+    pub fn code(self) -> u8
+        ensures ok { result ≡ 0 ↔ self ≡ Status.Ok }
+    {
+        match self {
+            Status::Ok => 0,
+            Status::Usage => 2,
+            Status::BadScript => 3,
+            Status::ReadFault => 4,
+            Status::WriteFault => 5,
+            Status::NoMemory => 7,
+        }
+    }
+}
+
+/// Why there is no run in print.
+#[derive(Clone, Copy, Debug, PartialEq, Eq)]
+pub enum Refusal {
+    Script(ScriptError),
+    ReadFault,
+    NoMemory,
+}
+
+impl From<AllocError> for Refusal {
+    ghost from_gives = { λ _ r. r ≡ RefusalMemory };
+
+    fn from(_error: AllocError) -> Refusal {
+        Refusal::NoMemory
+    }
+}
+
+impl From<ReadError> for Refusal {
+    ghost from_gives = { λ e r. r ≡ of_read e };
+
+    fn from(error: ReadError) -> Refusal {
+        match error {
+            ReadError::Failed => Refusal::ReadFault,
+            ReadError::NoMemory => Refusal::NoMemory,
+        }
+    }
+}
+
+impl From<ParseError> for Refusal {
+    ghost from_gives = { λ e r. r ≡ of_parse e };
+
+    fn from(error: ParseError) -> Refusal {
+        match error {
+            ParseError::Script(error) => Refusal::Script(error),
+            ParseError::NoMemory => Refusal::NoMemory,
+        }
+    }
+}
+
+/// The script that the source has left, read to its end.
+fn read_script<S: Source>(alloc: Global, source: &mut S) -> Result<Vec<Request>, Refusal>
+    ensures requests { IfOk result (λ requests. IfSome (S.remaining source.old) (λ left. script_of left ≡ Ok requests.items)) }
+    ensures end { OnOk result (IfSome (S.remaining source.old) (λ _. S.remaining source.new ≡ Some [])) }
+    ensures refused { IfErr result (λ r. IfSome (S.remaining source.old) (λ left. IsRefused left r)) }
+    ensures failed { IsErrOf result Refusal.ReadFault → HasRisen (S.faults source.old) (S.faults source.new) }
+{
+    let text = read_all(alloc, source)?;
+    Ok(parse(alloc, &text)?)
+}
+
+/// The run of that script, in print.
+fn print_run<S: Source>(alloc: Global, source: &mut S) -> Result<Vec<u8>, Refusal>
+    ensures text { IfOk result (λ text. IfSome (S.remaining source.old) (λ left. IsRunOf left text.items)) }
+    ensures end { OnOk result (IfSome (S.remaining source.old) (λ _. S.remaining source.new ≡ Some [])) }
+    ensures refused { IfErr result (λ r. IfSome (S.remaining source.old) (λ left. IsRefused left r)) }
+    ensures failed { IsErrOf result Refusal.ReadFault → HasRisen (S.faults source.old) (S.faults source.new) }
+{
+    let requests = read_script(alloc, source)?;
+    Ok(run(alloc, &requests)?)
+}
+
+fn is_command(words: &[String]) -> bool
+    ensures { IsTrue result ↔ map string_bytes words.now ≡ command }
+{
+    match words {
+        [word] => word.as_str() == "script",
+        _ => false,
+    }
+}
+
+/// Writes a last line. Where that fails, the status already says what ended the run.
+fn leave_line<T: Sink>(sink: &mut T, line: &[u8])
+    ensures { LeavesLine (T.contents sink.old) (T.contents sink.new) (T.faults sink.old) (T.faults sink.new) line.now }
+{
+    let _ = write_all(sink, line);
+}
+
+fn error_line(alloc: Global, error: ScriptError) -> Result<Vec<u8>, AllocError>
+    ensures { IfOk result (λ line. line.items ≡ error_line_of error) }
+{
+    let mut line = Vec::new(alloc);
+    match error {
+        ScriptError::Head(number) => {
+            push_number(alloc, &mut line, number)?;
+            line.extend_from_slice(b": head expected\n")?;
+        }
+        ScriptError::Line(number) => {
+            push_number(alloc, &mut line, number)?;
+            line.extend_from_slice(b": line not understood\n")?;
+        }
+        ScriptError::Number(number) => {
+            push_number(alloc, &mut line, number)?;
+            line.extend_from_slice(b": number out of range\n")?;
+        }
+        ScriptError::TooLong => line.extend_from_slice(b"script too long\n")?,
+    }
+    Ok(line)
+}
+
+/// Tells why the text is no script, or that there is no memory to tell it.
+fn leave_error<T: Sink>(alloc: Global, sink: &mut T, error: ScriptError) -> Status
+    ensures told { result ≡ Status.BadScript → LeavesLine (T.contents sink.old) (T.contents sink.new) (T.faults sink.old) (T.faults sink.new) (error_line_of error) }
+    ensures untold { result ≢ Status.BadScript → result ≡ Status.NoMemory }
+    ensures memory { result ≡ Status.NoMemory → LeavesLine (T.contents sink.old) (T.contents sink.new) (T.faults sink.old) (T.faults sink.new) (codes "no memory\n") }
+{
+    match error_line(alloc, error) {
+        Ok(line) => {
+            leave_line(sink, &line);
+            Status::BadScript
+        }
+        Err(AllocError) => {
+            leave_line(sink, b"no memory\n");
+            Status::NoMemory
+        }
+    }
+}
+
+/// Tells why there is no run in print.
+fn leave_refusal<T: Sink>(alloc: Global, sink: &mut T, refusal: Refusal) -> Status
+    ensures script { result ≡ Status.BadScript → RefusesScript refusal (LeavesLine (T.contents sink.old) (T.contents sink.new) (T.faults sink.old) (T.faults sink.new)) }
+    ensures read_fault { result ≡ Status.ReadFault → refusal ≡ Refusal.ReadFault × LeavesLine (T.contents sink.old) (T.contents sink.new) (T.faults sink.old) (T.faults sink.new) (codes "read fault\n") }
+    ensures memory { result ≡ Status.NoMemory → LeavesLine (T.contents sink.old) (T.contents sink.new) (T.faults sink.old) (T.faults sink.new) (codes "no memory\n") }
+    ensures others { IsRefusalStatus result }
+{
+    match refusal {
+        Refusal::Script(error) => leave_error(alloc, sink, error),
+        Refusal::ReadFault => {
+            leave_line(sink, b"read fault\n");
+            Status::ReadFault
+        }
+        Refusal::NoMemory => {
+            leave_line(sink, b"no memory\n");
+            Status::NoMemory
+        }
+    }
+}
+
+/// Runs the command that the words name. `script` reads a fault script to its end, runs it, and writes the printed
+/// chronicle.
+pub fn run_cluster<S: Source, T: Sink>(
+    alloc: Global,
+    words: &[String],
+    source: &mut S,
+    sink: &mut T,
+) -> Status
+    ensures usage { result ≡ Status.Usage ↔ map string_bytes words.now ≢ command }
+    ensures usage_line { result ≡ Status.Usage → LeavesLine (T.contents sink.old) (T.contents sink.new) (T.faults sink.old) (T.faults sink.new) (codes "usage: script\n") }
+    ensures ok { result ≡ Status.Ok → IfSome (S.remaining source.old) (λ left. (text : List ℕ) × IsRunOf left text × WritesAll (T.contents sink.old) (T.contents sink.new) text) }
+    ensures end { result ≡ Status.Ok → IfSome (S.remaining source.old) (λ _. S.remaining source.new ≡ Some []) }
+    ensures bad_script { result ≡ Status.BadScript → IfSome (S.remaining source.old) (λ left. (error : ScriptError) × (script_of left ≡ Err error) × LeavesLine (T.contents sink.old) (T.contents sink.new) (T.faults sink.old) (T.faults sink.new) (error_line_of error)) }
+    ensures read_fault { result ≡ Status.ReadFault → HasRisen (S.faults source.old) (S.faults source.new) × LeavesLine (T.contents sink.old) (T.contents sink.new) (T.faults sink.old) (T.faults sink.new) (codes "read fault\n") }
+    ensures write_fault { result ≡ Status.WriteFault → HasRisen (T.faults sink.old) (T.faults sink.new) }
+    ensures written { result ≡ Status.WriteFault → IfSome (S.remaining source.old) (λ left. (text : List ℕ) × IsRunOf left text × WritesFront (T.contents sink.old) (T.contents sink.new) text) }
+    ensures no_memory { result ≡ Status.NoMemory → LeavesLine (T.contents sink.old) (T.contents sink.new) (T.faults sink.old) (T.faults sink.new) (codes "no memory\n") }
+{
+    if !is_command(words) {
+        leave_line(sink, b"usage: script\n");
+        return Status::Usage;
+    }
+    match print_run(alloc, source) {
+        Ok(text) => match write_all(sink, &text) {
+            Ok(()) => Status::Ok,
+            Err(Failed) => Status::WriteFault,
+        },
+        Err(refusal) => leave_refusal(alloc, sink, refusal),
+    }
+}

@@ -1,0 +1,9 @@
+//! The outside of the program: where its input comes from, and where its output goes.
+#![tactic(auto)]
+
+mod faults;
+mod sink;
+mod source;
+
+pub use sink::{MemSink, Sink, StdSink};
+pub use source::{MemSource, Source, StdSource};
