@@ -2,5 +2,7 @@
 #![tactic(auto)]
 
 mod order;
+#[cfg(test)]
+mod tests;
 
 pub use order::{beats, covers, outranks};

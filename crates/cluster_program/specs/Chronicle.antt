@@ -1,9 +1,10 @@
 -- The chronicle of a run: what was asked, submitted and answered, the newest entry first.
-use Rattle.std.specs.Prelude.{◌≡◌, ℕ, ◌+◌, ◌^◌, ◌-◌, Bool, true, false, ◌==◌, if◌then◌else◌, Option, Some, None, List, [], ◌∷◌, ◌++◌, map, flat_map, Contains, ℤ, pos}
+use Rattle.std.specs.Prelude.{◌≡◌, ℕ, ◌+◌, ◌^◌, ◌-◌, Bool, true, false, ◌==◌, if◌then◌else◌, Option, Some, None, List, [], ◌∷◌, ◌++◌, map, flat_map, Contains}
 use Rattle.cs_base.specs.declared.ids.ReqId.{ReqId}
 use Rattle.cs_base.specs.declared.level.Level.{Level}
 use Rattle.cs_base.specs.declared.level.Level.TheVariants.{One}
 use Rattle.cs_base.specs.Requests.{is_request}
+use Rattle.token_ring.specs.Murmur.{token_of}
 use Rattle.changes.specs.declared.Partition.{Partition}
 use Rattle.changes.specs.declared.Held.{Held}
 use Rattle.changes.specs.declared.Place.TheVariants.{Cell}
@@ -61,9 +62,6 @@ order_byte b = if b == 0 then 0 ∷ 255 ∷ [] else b ∷ []
 
 abbrev pub text_order : List ℕ → List ℕ
 text_order text = flat_map order_byte text ++ 0 ∷ 0 ∷ []
-
-abbrev pub token_of : List ℕ → ℤ
-token_of key = pos 0
 
 -- the partition of a key of the table, which has number 0
 abbrev pub kv_partition : List ℕ → Partition

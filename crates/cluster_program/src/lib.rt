@@ -7,5 +7,7 @@ mod program;
 mod rows;
 mod run;
 mod streams;
+#[cfg(test)]
+mod tests;
 
 pub use program::{Status, run_cluster};

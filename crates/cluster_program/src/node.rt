@@ -11,6 +11,7 @@ use changes::{Change, Held, Partition, Place, ShownRow};
 use cs_base::{Bytes, Micros, NodeId, ReqId};
 use fault_script::{GetRequest, PutRequest};
 use std::alloc::{AllocError, Global};
+use token_ring::token;
 
 /// The number of the table `script.kv`.
 const TABLE: u16 = 0;
@@ -38,7 +39,7 @@ fn partition_of(alloc: Global, key: &Bytes) -> Result<Partition, AllocError>
 {
     Ok(Partition {
         table: TABLE,
-        token: 0,
+        token: token(key.as_slice()),
         key: key.copy(alloc)?,
     })
 }

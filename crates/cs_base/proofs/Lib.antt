@@ -1,0 +1,5 @@
+pub mod Circle
+pub mod LeafSets
+pub mod Members
+pub mod Quorums
+pub mod Rows

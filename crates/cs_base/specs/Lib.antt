@@ -1,2 +1,7 @@
 pub mod Faults
+pub mod LeafBits
+pub mod Leaves
+pub mod Levels
+pub mod Quorums
 pub mod Requests
+pub mod Ring

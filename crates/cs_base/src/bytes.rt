@@ -107,3 +107,19 @@ impl Ord for Bytes {
         self.as_slice().cmp(other.as_slice())
     }
 }
+
+#[cfg(test)]
+mod tests {
+    use super::*;
+    use std::test::Fail;
+
+    #[test]
+    fn copies_bytes(rt: HostRuntime) -> Result<(), Fail> {
+        let bytes = Bytes::from_slice(rt.alloc(), b"k\xff\x00")?;
+        let copy = bytes.copy(rt.alloc())?;
+        assert_eq!(rt; copy, bytes);
+        assert_eq!(rt; copy.as_slice(), b"k\xff\x00".as_slice());
+        assert!(rt; Bytes::from_slice(rt.alloc(), b"k")? < bytes);
+        Ok(())
+    }
+}

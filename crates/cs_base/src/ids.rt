@@ -75,6 +75,34 @@ impl Micros {
     }
 }
 
+/// A ballot of a conditional update: the node time at which its proposer made it, congruent to that node's number.
+#[derive(Clone, Copy, Debug, PartialEq, Eq, PartialOrd, Ord)]
+pub struct Ballot {
+    number: u64,
+}
+
+impl Model for Ballot {
+    ghost Value = { ℕ };
+
+    ghost view = { λ a. a.number };
+
+    ghost inverse = { λ n. record { number = n } };
+}
+
+impl Ballot {
+    pub const fn new(number: u64) -> Ballot
+        ensures { result ≡ number }
+    {
+        Ballot { number }
+    }
+
+    pub fn number(self) -> u64
+        ensures { result ≡ self }
+    {
+        self.number
+    }
+}
+
 /// A request: the node that began it, and that node's time then. Requests are in order of node and then of time.
 #[derive(Clone, Copy, Debug, PartialEq, Eq, PartialOrd, Ord)]
 pub struct ReqId {

@@ -56,3 +56,16 @@ impl Text {
         Text::from_str(alloc, self.as_str())
     }
 }
+
+#[cfg(test)]
+mod tests {
+    use super::*;
+    use std::test::Fail;
+
+    #[test]
+    fn copies_a_text(rt: HostRuntime) -> Result<(), Fail> {
+        let text = Text::from_str(rt.alloc(), "żółć")?;
+        assert_eq!(rt; text.copy(rt.alloc())?.as_str(), "żółć");
+        Ok(())
+    }
+}

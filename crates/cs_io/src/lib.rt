@@ -4,6 +4,8 @@
 mod faults;
 mod sink;
 mod source;
+#[cfg(test)]
+mod tests;
 
 pub use sink::{MemSink, Sink, StdSink};
 pub use source::{MemSource, Source, StdSource};

@@ -5,6 +5,8 @@ mod lines;
 mod numbers;
 mod reader;
 mod script;
+#[cfg(test)]
+mod tests;
 
 pub use reader::{LONGEST_SCRIPT, ParseError, parse};
 pub use script::{Fault, GetRequest, PutRequest, Request, ScriptError, Stage};

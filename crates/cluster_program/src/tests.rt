@@ -1,0 +1,182 @@
+//! Worked scripts, with answers that were written by hand.
+
+use crate::{Status, run_cluster};
+use cs_io::{MemSink, MemSource};
+use std::alloc::{AllocError, Global};
+use std::test::Fail;
+
+/// What a run ended with, and what it wrote.
+#[derive(Drop)]
+struct Ended {
+    status: Status,
+    text: Vec<u8>,
+}
+
+/// Source and sink take `most` bytes in a call, and these calls of theirs fail.
+#[derive(Clone, Copy)]
+struct Outside<'a> {
+    most: usize,
+    failing_reads: &'a [u64],
+    failing_writes: &'a [u64],
+}
+
+const SOUND: Outside<'static> = Outside {
+    most: 1000,
+    failing_reads: &[],
+    failing_writes: &[],
+};
+
+fn run(
+    alloc: Global,
+    word: &str,
+    script: &str,
+    outside: &Outside<'_>,
+) -> Result<Ended, AllocError> {
+    let mut words = Vec::new(alloc);
+    words.push(String::from_str(alloc, word)?)?;
+    let mut source = MemSource::new(
+        Vec::from_slice(alloc, script.as_bytes())?,
+        outside.most,
+        Vec::from_slice(alloc, outside.failing_reads)?,
+    );
+    let mut sink = MemSink::new(
+        alloc,
+        outside.most,
+        Vec::from_slice(alloc, outside.failing_writes)?,
+    );
+    let status = run_cluster(alloc, &words, &mut source, &mut sink);
+    let text = Vec::from_slice(alloc, sink.bytes())?;
+    Ok(Ended { status, text })
+}
+
+const HEAD: &str = "cassandra-script 1\nring 0\nrf 1\nrun\n";
+
+fn behind_head(alloc: Global, lines: &str) -> Result<String, AllocError> {
+    let mut script = String::from_str(alloc, HEAD)?;
+    script.push_str(lines)?;
+    Ok(script)
+}
+
+#[test]
+fn answers_scripts(rt: HostRuntime) -> Result<(), Fail> {
+    let cases = [
+        (
+            "put 0 ONE k a 5 x\nget 0 ONE k\n",
+            "1 ok\n2 rows 1\n 'a' | 'x'\n",
+        ),
+        ("put 0 ONE k a 5 x\nget 0 ONE z\n", "1 ok\n2 rows 0\n"),
+        (
+            "put 0 ONE k a 5 1\nput 0 ONE k a 5 2\nput 0 ONE k b 5 2\nput 0 ONE k b 5 1\nget 0 ONE k",
+            "1 ok\n2 ok\n3 ok\n4 ok\n5 rows 2\n 'a' | '2'\n 'b' | '2'\n",
+        ),
+        (
+            "# later lines may be older\n\nput 0 ONE k b 2 it's\nput 0 ONE k b -1 old\nput 0 ONE k a 1 x\nget 0 ONE k\n",
+            "1 ok\n2 ok\n3 ok\n4 rows 2\n 'a' | 'x'\n 'b' | 'it''s'\n",
+        ),
+        ("", ""),
+    ];
+    for (lines, want) in cases {
+        let script = behind_head(rt.alloc(), lines)?;
+        let ended = run(rt.alloc(), "script", script.as_str(), &SOUND)?;
+        assert_eq!(rt; ended.status, Status::Ok, "{lines}");
+        assert_eq!(rt; ended.text.as_slice(), want.as_bytes(), "{lines}");
+    }
+    Ok(())
+}
+
+#[test]
+fn refuses_what_is_no_script(rt: HostRuntime) -> Result<(), Fail> {
+    let cases = [
+        ("", "1: head expected\n"),
+        ("cassandra-script 2\n", "1: head expected\n"),
+        ("cassandra-script 1\nring 0\nrf 1\n", "4: head expected\n"),
+        (
+            "cassandra-script 1\nring 9223372036854775808\n",
+            "2: number out of range\n",
+        ),
+        (
+            "cassandra-script 1\nring 0\nrf 2\n",
+            "3: number out of range\n",
+        ),
+        (
+            "cassandra-script 1\nring 0\nrf 1\nrun\nput 0 ONE k a 5\n",
+            "5: line not understood\n",
+        ),
+        (
+            "cassandra-script 1\nring 0\nrf 1\nrun\nget 0 ONE k z\n",
+            "5: line not understood\n",
+        ),
+        (
+            "cassandra-script 1\nring 0\nrf 1\nrun\nget 9 ONE k\n",
+            "5: number out of range\n",
+        ),
+        (
+            "cassandra-script 1\nring 0\nrf 1\nrun\n# comment\nget 0 TWO k\n",
+            "6: number out of range\n",
+        ),
+        (
+            "cassandra-script 1\nring 0\nrf 1\nrun\nget 0 ONE k \n",
+            "5: line not understood\n",
+        ),
+    ];
+    for (script, want) in cases {
+        let ended = run(rt.alloc(), "script", script, &SOUND)?;
+        assert_eq!(rt; ended.status, Status::BadScript, "{script}");
+        assert_eq!(rt; ended.text.as_slice(), want.as_bytes(), "{script}");
+    }
+    Ok(())
+}
+
+#[test]
+fn tells_faults_apart(rt: HostRuntime) -> Result<(), Fail> {
+    let script = behind_head(rt.alloc(), "put 0 ONE k a 5 x\n")?;
+    let cases = [
+        ("scripts", SOUND, Status::Usage, "usage: script\n"),
+        (
+            "script",
+            Outside {
+                most: 7,
+                failing_reads: &[3],
+                failing_writes: &[],
+            },
+            Status::ReadFault,
+            "read fault\n",
+        ),
+        (
+            "script",
+            Outside {
+                most: 3,
+                failing_reads: &[],
+                failing_writes: &[2],
+            },
+            Status::WriteFault,
+            "1 o",
+        ),
+        (
+            "script",
+            Outside {
+                most: 0,
+                failing_reads: &[],
+                failing_writes: &[],
+            },
+            Status::WriteFault,
+            "",
+        ),
+        (
+            "script",
+            Outside {
+                most: 1,
+                failing_reads: &[],
+                failing_writes: &[],
+            },
+            Status::Ok,
+            "1 ok\n",
+        ),
+    ];
+    for (word, outside, status, text) in cases {
+        let ended = run(rt.alloc(), word, script.as_str(), &outside)?;
+        assert_eq!(rt; ended.status, status);
+        assert_eq!(rt; ended.text.as_slice(), text.as_bytes());
+    }
+    Ok(())
+}

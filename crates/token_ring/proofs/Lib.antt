@@ -1,0 +1,6 @@
+pub mod Numbered
+pub mod Places
+pub mod Ranges
+pub mod Repeats
+pub mod Rings
+pub mod Vectors

@@ -1,0 +1,4 @@
+pub mod Murmur
+pub mod Placement
+pub mod Refusals
+pub mod Tokens

@@ -1,0 +1,279 @@
+//! The ring of the nodes' tokens.
+
+ghost use Rattle.std.specs.Prelude.{◌≡◌, ◌↔◌, ◌≤◌, ◌<◌, IsTrue, IsNone, IfOk, IfNone, IfSome, Some, Contains, length};
+ghost use Rattle.cs_base.specs.Ring.{clockwise, place_of, AreApart, AreTokens, IsRing, IsOwnRange};
+ghost use Rattle.token_ring.specs.Placement.{AreReplicas, IsAtPlace};
+ghost use Rattle.token_ring.specs.Refusals.{IsFirstRepeated, IsRefusal, message_of};
+
+use crate::replicas::Replicas;
+use cs_base::{NodeId, Range};
+use std::error::Error;
+use std::fmt;
+use std::marker::Model;
+
+/// How many nodes a ring has at most.
+pub const MOST_NODES: usize = 7;
+
+/// Why a list of tokens is no ring.
+#[derive(Clone, Copy, Debug, PartialEq, Eq)]
+pub enum RingError {
+    /// There is no token.
+    Empty,
+    /// This token is the first that occurred before.
+    Repeated(i64),
+    /// There are more than seven tokens: so many.
+    TooMany(usize),
+}
+
+impl fmt::Display for RingError {
+    ghost output = { λ e. Some (message_of e) };
+
+    fn fmt<W: fmt::Write>(&self, f: &mut fmt::Formatter<W>) -> fmt::Result {
+        match self {
+            RingError::Empty => write!(f, "a ring needs a token"),
+            RingError::Repeated(token) => write!(f, "the token {token} occurs twice"),
+            RingError::TooMany(count) => write!(f, "{count} tokens, and a ring has at most 7"),
+        }
+    }
+}
+
+impl Error for RingError {}
+
+/// The tokens of the nodes by node number: token 0 is node 0's, and so on. They need not be sorted.
+#[derive(Clone, Copy, Debug)]
+pub struct Ring {
+    tokens: [i64; MOST_NODES],
+    nodes: u8,
+}
+
+impl Model for Ring {
+    ghost use Rattle.std.specs.Prelude.{ℤ, List, length, take};
+    ghost use Rattle.std.proofs.Common.{ap₂};
+    ghost use Rattle.token_ring.specs.Tokens.{HoldsRing, array_of, array_back, count_back};
+
+    ghost Value = { List ℤ };
+
+    ghost view = { λ a. take a.nodes a.tokens };
+
+    ghost invariant = { λ a. HoldsRing a.tokens a.nodes };
+
+    ghost inverse = { λ ring. record { tokens = array_of ring; nodes = length ring } };
+
+    ghost inverse_ok = { λ a h. ap₂ (λ t n. record { tokens = t; nodes = n }) (array_back a.tokens a.nodes h) (count_back a.tokens a.nodes h) };
+}
+
+impl Ring {
+    /// The ring of these tokens, without an allocation.
+    pub fn new(tokens: &[i64]) -> Result<Ring, RingError>
+        ensures ok { IfOk result (λ ring. ring ≡ tokens.now) }
+        ensures refused { (e : RingError) → (result ≡ Err e) ↔ IsRefusal tokens.now e }
+    {
+        if tokens.is_empty() {
+            return Err(RingError::Empty);
+        }
+        if let Some(token) = first_repeated(tokens) {
+            return Err(RingError::Repeated(token));
+        }
+        if tokens.len() > MOST_NODES {
+            return Err(RingError::TooMany(tokens.len()));
+        }
+        Ok(Ring::of_tokens(tokens))
+    }
+
+    fn of_tokens(tokens: &[i64]) -> Ring
+        requires { IsRing tokens.now }
+        ensures { result ≡ tokens.now }
+    {
+        let mut array = [0; MOST_NODES];
+        array[..tokens.len()].copy_from_slice(tokens);
+        Ring {
+            tokens: array,
+            nodes: tokens.len() as u8,
+        }
+    }
+
+    /// The tokens by node number.
+    pub fn tokens(&self) -> &[i64]
+        ensures value { result.now ≡ self.now }
+        ensures ring { IsRing self.now }
+    {
+        &self.tokens[..usize::from(self.nodes)]
+    }
+
+    /// How many nodes there are.
+    pub fn nodes(&self) -> u8
+        ensures value { result ≡ length self.now }
+        ensures some { 1 ≤ result }
+        ensures few { result ≤ 7 }
+    {
+        self.nodes
+    }
+
+    /// Fills `out` with the replicas of a token at the factor `rf`, the owner first, without an allocation.
+    pub fn replicas(&self, token: i64, rf: u8, out: &mut Replicas)
+        requires some { 1 ≤ rf }
+        requires nodes { rf ≤ length self.now }
+        ensures { AreReplicas self.now rf token out.new }
+    {
+        let tokens = self.tokens();
+        out.clear();
+        for place in 0..rf {
+            out.push(node_at(tokens, token, place));
+        }
+    }
+
+    /// The range that the node owns: above the token before its own, up to its own.
+    pub fn range(&self, node: NodeId) -> Range
+        requires { node < length self.now }
+        ensures { IsOwnRange self.now node result }
+    {
+        let tokens = self.tokens();
+        let upto = tokens[usize::from(node.number())];
+        let before = node_at(tokens, upto, self.nodes - 1);
+        Range {
+            after: tokens[usize::from(before.number())],
+            upto,
+        }
+    }
+}
+
+/// The node whose token is the one before which so many come, clockwise from the token.
+fn node_at(tokens: &[i64], token: i64, place: u8) -> NodeId
+    requires ring { IsRing tokens.now }
+    requires place { place < length tokens.now }
+    ensures { IsAtPlace tokens.now token place result }
+{
+    for (node, own) in tokens.iter().enumerate() {
+        if place_of_token(tokens, token, *own) == place {
+            return NodeId::new(node as u8).unwrap();
+        }
+    }
+    unreachable!()
+}
+
+/// How many tokens come before this one, clockwise from the other.
+fn place_of_token(tokens: &[i64], token: i64, own: i64) -> u8
+    requires { length tokens.now ≤ 7 }
+    ensures { result ≡ place_of tokens.now token own }
+{
+    let limit = distance(token, own);
+    tokens
+        .iter()
+        .filter(|other| distance(token, **other) < limit)
+        .count() as u8
+}
+
+/// How far `to` is from `from`, clockwise.
+fn distance(from: i64, to: i64) -> u64
+    ensures { result ≡ clockwise from to }
+{
+    to.wrapping_sub(from).cast_unsigned()
+}
+
+/// The first token that occurred before.
+fn first_repeated(tokens: &[i64]) -> Option<i64>
+    ensures none { IsNone result ↔ AreApart tokens.now }
+    ensures first { IfSome result (IsFirstRepeated tokens.now) }
+    ensures tokens { IfNone result (AreTokens tokens.now) }
+{
+    for (i, token) in tokens.iter().enumerate() {
+        if is_among(&tokens[..i], *token) {
+            return Some(*token);
+        }
+    }
+    None
+}
+
+fn is_among(tokens: &[i64], token: i64) -> bool
+    ensures { IsTrue result ↔ Contains tokens.now token }
+{
+    tokens.contains(&token)
+}
+
+#[cfg(test)]
+mod tests {
+    use super::*;
+    use std::test::Fail;
+
+    // Round the circle from the least token: node 2, node 0, node 1.
+    const TOKENS: [i64; 3] = [0, 3_000_000_000_000_000_000, -3_000_000_000_000_000_000];
+
+    #[test]
+    fn places_replicas_clockwise(rt: HostRuntime) -> Result<(), Fail> {
+        let ring = Ring::new(&TOKENS)?;
+        let rows = [
+            (-4_069_959_284_402_364_209, [2, 0, 1]),
+            (-3_000_000_000_000_000_000, [2, 0, 1]),
+            (-2_999_999_999_999_999_999, [0, 1, 2]),
+            (0, [0, 1, 2]),
+            (1, [1, 2, 0]),
+            (i64::MAX, [2, 0, 1]),
+            (i64::MIN, [2, 0, 1]),
+        ];
+        let mut replicas = Replicas::new();
+        for (token, want) in rows {
+            for rf in 1..4u8 {
+                ring.replicas(token, rf, &mut replicas);
+                assert_eq!(rt; replicas.len(), usize::from(rf), "at {token}");
+                for (node, number) in replicas.as_slice().iter().zip(want) {
+                    assert_eq!(rt; node.number(), number, "at {token}");
+                }
+            }
+        }
+        Ok(())
+    }
+
+    #[test]
+    fn shares_out_ranges(rt: HostRuntime) -> Result<(), Fail> {
+        let ring = Ring::new(&TOKENS)?;
+        let copy = ring;
+        assert_eq!(rt; copy.nodes(), 3);
+        let first = NodeId::new(0).ok_or("no node 0")?;
+        let last = NodeId::new(2).ok_or("no node 2")?;
+        assert_eq!(rt;
+            ring.range(first),
+            Range {
+                after: TOKENS[2],
+                upto: TOKENS[0]
+            }
+        );
+        assert_eq!(rt;
+            ring.range(last),
+            Range {
+                after: TOKENS[1],
+                upto: TOKENS[2]
+            }
+        );
+        let alone = Ring::new(&[7])?;
+        assert_eq!(rt; alone.range(first), Range { after: 7, upto: 7 });
+        Ok(())
+    }
+
+    #[test]
+    fn refuses_what_is_no_ring(rt: HostRuntime) -> Result<(), Fail> {
+        let rows: [(&[i64], RingError, &str); 4] = [
+            (&[], RingError::Empty, "a ring needs a token"),
+            (
+                &[1, 2, 1, 2],
+                RingError::Repeated(1),
+                "the token 1 occurs twice",
+            ),
+            (
+                &[1, 2, 3, 4, 5, 6, 7, 8, -9, -9],
+                RingError::Repeated(-9),
+                "the token -9 occurs twice",
+            ),
+            (
+                &[1, 2, 3, 4, 5, 6, 7, 8],
+                RingError::TooMany(8),
+                "8 tokens, and a ring has at most 7",
+            ),
+        ];
+        for (tokens, want, text) in rows {
+            let error = Ring::new(tokens).err().ok_or("a ring")?;
+            assert_eq!(rt; error, want);
+            assert_eq!(rt; format!(in rt.alloc(); "{error}")?.as_str(), text);
+        }
+        Ok(())
+    }
+}
