@@ -53,6 +53,13 @@ IsRefusalStatus status.ReadFault = Unit {0}
 IsRefusalStatus status.WriteFault = ⊥
 IsRefusalStatus status.NoMemory = Unit {0}
 
+-- what a text that is no script ends with, and what a script ends with
+abbrev pub IsRefusedWith : Status → Type 0
+IsRefusedWith s = (s ≡ status.BadScript) ⊎ (s ≡ status.ReadFault) ⊎ (s ≡ status.NoMemory)
+
+abbrev pub IsServedWith : Status → Type 0
+IsServedWith s = (s ≡ status.Ok) ⊎ (s ≡ status.ReadFault) ⊎ (s ≡ status.WriteFault) ⊎ (s ≡ status.NoMemory)
+
 -- the script is refused, and its line is told
 abbrev pub RefusesScript : Refusal → (List ℕ → Type 0) → Type 0
 RefusesScript (refusal.Script e) Told = Told (error_line e)

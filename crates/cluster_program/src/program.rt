@@ -4,8 +4,9 @@ ghost use Rattle.std.specs.Prelude.{◌≡◌, ◌≢◌, ◌⊎◌, ◌↔◌, 
 ghost use Rattle.std.specs.String.{string_bytes};
 ghost use Rattle.cs_base.specs.Faults.{HasRisen};
 ghost use Rattle.fault_script.specs.Script.{script_of};
+ghost use Rattle.fault_script.specs.declared.script.Request.{Request as request_value};
 ghost use Rattle.fault_script.specs.declared.script.ScriptError.{ScriptError};
-ghost use Rattle.cluster_program.specs.Endings.{command, IsRunOf, LeavesLine, RefusesScript, IsRefusalStatus, IsRefused, of_read, of_parse, error_line as error_line_of};
+ghost use Rattle.cluster_program.specs.Endings.{command, IsRunOf, LeavesLine, RefusesScript, IsRefusalStatus, IsRefusedWith, IsServedWith, IsRefused, of_read, of_parse, error_line as error_line_of};
 ghost use Rattle.cluster_program.specs.Streams.{WritesAll, WritesFront};
 ghost use Rattle.cluster_program.specs.declared.program.Refusal.TheVariants.{NoMemory as RefusalMemory};
 
@@ -196,6 +197,8 @@ pub fn run_cluster<S: Source, T: Sink>(
     ensures read_fault { result ≡ Status.ReadFault → HasRisen (S.faults source.old) (S.faults source.new) × LeavesLine (T.contents sink.old) (T.contents sink.new) (T.faults sink.old) (T.faults sink.new) (codes "read fault\n") }
     ensures write_fault { result ≡ Status.WriteFault → HasRisen (T.faults sink.old) (T.faults sink.new) }
     ensures written { result ≡ Status.WriteFault → IfSome (S.remaining source.old) (λ left. (text : List ℕ) × IsRunOf left text × WritesFront (T.contents sink.old) (T.contents sink.new) text) }
+    ensures refused { IfSome (S.remaining source.old) (λ left. (error : ScriptError) → script_of left ≡ Err error → map string_bytes words.now ≡ command → IsRefusedWith result) }
+    ensures served { IfSome (S.remaining source.old) (λ left. (requests : List request_value) → script_of left ≡ Ok requests → map string_bytes words.now ≡ command → IsServedWith result) }
     ensures no_memory { result ≡ Status.NoMemory → LeavesLine (T.contents sink.old) (T.contents sink.new) (T.faults sink.old) (T.faults sink.new) (codes "no memory\n") }
 {
     if !is_command(words) {
