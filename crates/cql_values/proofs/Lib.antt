@@ -1,0 +1,14 @@
+pub mod Endian
+pub mod Words
+pub mod Quotes
+pub mod LiteralWords
+pub mod Numbers
+pub mod LiteralLaws
+pub mod Utf8
+pub mod Comparing
+pub mod OrderLaws
+pub mod Run
+pub mod Scanning
+pub mod Columns
+pub mod ReadingLaws
+pub mod TimeLaws
