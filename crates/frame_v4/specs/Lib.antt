@@ -1,0 +1,5 @@
+pub mod Spelling
+pub mod Stream
+pub mod Reading
+pub mod Framer
+pub mod Laws
