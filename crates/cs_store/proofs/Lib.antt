@@ -1,0 +1,4 @@
+pub mod Calls
+pub mod MemLemmas
+pub mod Moments
+pub mod Pasts

@@ -1,0 +1,9 @@
+pub mod Disk
+pub mod Faults
+pub mod Lent
+pub mod Mem
+pub mod MemFile
+pub mod MemParts
+pub mod MemStores
+pub mod Past
+pub mod Plan

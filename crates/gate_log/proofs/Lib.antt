@@ -1,0 +1,4 @@
+pub mod Crash
+pub mod Entries
+pub mod Moves
+pub mod Readings
