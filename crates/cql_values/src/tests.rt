@@ -280,3 +280,22 @@ fn refusals(rt: HostRuntime) -> Result<(), Fail> {
     }
     Ok(())
 }
+
+/// A key of several parts is hashed as each part behind its length in two bytes, and a 0 after it.
+#[test]
+fn parts_of_a_hashed_key(rt: HostRuntime) -> Result<(), Fail> {
+    let alloc = rt.alloc();
+    let first = encode(alloc, &CqlValue::Int(1))?;
+    let second = encode(alloc, &CqlValue::Text(Text::from_str(alloc, "a")?))?;
+    let mut key = Vec::new(alloc);
+    for part in [first.as_slice(), second.as_slice()] {
+        key.extend_from_slice(&(part.len() as u16).to_be_bytes())?;
+        key.extend_from_slice(part)?;
+        key.push(0)?;
+    }
+    assert_eq!(rt;
+        key.as_slice(),
+        b"\x00\x04\x00\x00\x00\x01\x00\x00\x01a\x00".as_slice()
+    );
+    Ok(())
+}
