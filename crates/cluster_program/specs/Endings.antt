@@ -45,13 +45,33 @@ abbrev pub of_parse : ParseError → Refusal
 of_parse (parse.Script e) = refusal.Script e
 of_parse parse.NoMemory = refusal.NoMemory
 
+-- the number that the process ends with
+abbrev pub code_of : Status → ℕ
+code_of status.Ok = 0
+code_of status.Usage = 2
+code_of status.BadScript = 3
+code_of status.ReadFault = 4
+code_of status.WriteFault = 5
+code_of status.StoreFault = 6
+code_of status.NoMemory = 7
+code_of status.DoorFault = 8
+code_of status.NoThread = 9
+code_of status.HistoryFull = 10
+code_of status.Damaged = 11
+
+-- a status for which there is no run in print
 abbrev pub IsRefusalStatus : Status → Type 0
 IsRefusalStatus status.Ok = ⊥
 IsRefusalStatus status.Usage = ⊥
 IsRefusalStatus status.BadScript = Unit {0}
 IsRefusalStatus status.ReadFault = Unit {0}
 IsRefusalStatus status.WriteFault = ⊥
+IsRefusalStatus status.StoreFault = ⊥
 IsRefusalStatus status.NoMemory = Unit {0}
+IsRefusalStatus status.DoorFault = ⊥
+IsRefusalStatus status.NoThread = ⊥
+IsRefusalStatus status.HistoryFull = ⊥
+IsRefusalStatus status.Damaged = ⊥
 
 -- what a text that is no script ends with, and what a script ends with
 abbrev pub IsRefusedWith : Status → Type 0

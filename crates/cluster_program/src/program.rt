@@ -18,7 +18,8 @@ use cs_io::{Sink, Source};
 use fault_script::{ParseError, Request, ScriptError, parse};
 use std::alloc::{AllocError, Global};
 
-/// How the program ended.
+/// How the program ended. `script` never ends with `StoreFault`, `DoorFault`, `NoThread`, `HistoryFull` or `Damaged`,
+/// which are for serving connections.
 #[derive(Clone, Copy, Debug, PartialEq, Eq)]
 pub enum Status {
     Ok,
@@ -26,13 +27,20 @@ pub enum Status {
     BadScript,
     ReadFault,
     WriteFault,
+    StoreFault,
     NoMemory,
+    DoorFault,
+    NoThread,
+    HistoryFull,
+    Damaged,
 }
 
 impl Status {
+    ghost use Rattle.cluster_program.specs.Endings.{code_of};
+
     /// The number that the process ends with.
     pub fn code(self) -> u8
-        ensures ok { result ≡ 0 ↔ self ≡ Status.Ok }
+        ensures { result ≡ code_of self }
     {
         match self {
             Status::Ok => 0,
@@ -40,7 +48,12 @@ impl Status {
             Status::BadScript => 3,
             Status::ReadFault => 4,
             Status::WriteFault => 5,
+            Status::StoreFault => 6,
             Status::NoMemory => 7,
+            Status::DoorFault => 8,
+            Status::NoThread => 9,
+            Status::HistoryFull => 10,
+            Status::Damaged => 11,
         }
     }
 }
@@ -197,6 +210,7 @@ pub fn run_cluster<S: Source, T: Sink>(
     ensures read_fault { result ≡ Status.ReadFault → HasRisen (S.faults source.old) (S.faults source.new) × LeavesLine (T.contents sink.old) (T.contents sink.new) (T.faults sink.old) (T.faults sink.new) (codes "read fault\n") }
     ensures write_fault { result ≡ Status.WriteFault → HasRisen (T.faults sink.old) (T.faults sink.new) }
     ensures written { result ≡ Status.WriteFault → IfSome (S.remaining source.old) (λ left. (text : List ℕ) × IsRunOf left text × WritesFront (T.contents sink.old) (T.contents sink.new) text) }
+    ensures statuses { (result ≡ Status.Ok) ⊎ (result ≡ Status.Usage) ⊎ (result ≡ Status.WriteFault) ⊎ IsRefusalStatus result }
     ensures refused { IfSome (S.remaining source.old) (λ left. (error : ScriptError) → script_of left ≡ Err error → map string_bytes words.now ≡ command → IsRefusedWith result) }
     ensures served { IfSome (S.remaining source.old) (λ left. (requests : List request_value) → script_of left ≡ Ok requests → map string_bytes words.now ≡ command → IsServedWith result) }
     ensures no_memory { result ≡ Status.NoMemory → LeavesLine (T.contents sink.old) (T.contents sink.new) (T.faults sink.old) (T.faults sink.new) (codes "no memory\n") }
