@@ -1,2 +1,4 @@
 pub mod Order
 pub mod Shown
+pub mod Contents
+pub mod Queries
