@@ -1,3 +1,13 @@
 pub mod RankLaws
 pub mod Standing
 pub mod TestLaws
+pub mod StandLaws
+pub mod RowLaws
+pub mod EdgeLaws
+pub mod WalkLaws
+pub mod StateLaws
+pub mod FiledLaws
+pub mod SweepLaws
+pub mod KeptLaws
+pub mod AmongLaws
+pub mod PlainLaws

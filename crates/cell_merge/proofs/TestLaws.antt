@@ -12,8 +12,9 @@ use Rattle.changes.specs.declared.Bound.{Bound}
 use Rattle.changes.specs.declared.Place.{Place}
 use Rattle.changes.specs.declared.Place.TheVariants.{Cell, Marker, RowGone, RangeGone, PartGone}
 use Rattle.changes.specs.Order.{bound_signs, row_signs, signs_cmp, IsBetween, Encloses, LiesIn, IsDeletionAt}
+use Rattle.changes.specs.Queries.{MeetsBounds}
 use Rattle.change_laws.proofs.SignLaws.{bound_made, NotAbove_refl}
-use Rattle.cell_merge.specs.Tests.{is_same_bytes, is_same_bound, is_between_by, is_same_place, is_within, is_deletion_by}
+use Rattle.cell_merge.specs.Tests.{is_same_bytes, is_same_bound, is_between_by, is_same_place, is_within, is_deletion_by, meets_by}
 
 same_bytes : (a b : List ℕ) → is_same_bytes a b ≡ true → a ≡ b
 same_bytes a b h = (bytes_eq-Decides a b).0 h
@@ -94,14 +95,14 @@ greater_not Less h = refl
 greater_not Equal h = refl
 greater_not Greater h = absurd (h refl)
 
-between_tells : (from upto : Bound) (row : List ℕ) → is_between_by from upto row ≡ true → IsBetween from upto row
+pub between_tells : (from upto : Bound) (row : List ℕ) → is_between_by from upto row ≡ true → IsBetween from upto row
 between_tells from upto row h =
     let low = signs_cmp (bound_signs from) (row_signs row) in
     let high = signs_cmp (row_signs row) (bound_signs upto) in
     let parts = and_parts (is_lt low) (is_lt high) h in
     (is_less low parts.0, is_less high parts.1)
 
-between_true : (from upto : Bound) (row : List ℕ) → IsBetween from upto row → is_between_by from upto row ≡ true
+pub between_true : (from upto : Bound) (row : List ℕ) → IsBetween from upto row → is_between_by from upto row ≡ true
 between_true from upto row h =
     let low = signs_cmp (bound_signs from) (row_signs row) in
     let high = signs_cmp (row_signs row) (bound_signs upto) in
@@ -185,3 +186,15 @@ within_iff p q = (within_tells p q, within_true p q)
 
 pub same_place_iff : (p q : Place) → IsTrue (is_same_place p q) ↔ (p ≡ q)
 same_place_iff p q = (same_place_tells p q, same_place_true p q)
+
+pub meets_iff : (from upto : Bound) (p : Place) → IsTrue (meets_by from upto p) ↔ MeetsBounds from upto p
+meets_iff from upto (Cell row c) = (between_tells from upto row, between_true from upto row)
+meets_iff from upto (Marker row) = (between_tells from upto row, between_true from upto row)
+meets_iff from upto (RowGone row) = (between_tells from upto row, between_true from upto row)
+meets_iff from upto (RangeGone a b) =
+    let low = signs_cmp (bound_signs a) (bound_signs upto) in
+    let high = signs_cmp (bound_signs from) (bound_signs b) in (
+      λ h. let parts = and_parts (not (is_gt low)) (not (is_gt high)) h in (not_greater low parts.0, not_greater high parts.1),
+      λ h. and_from (not (is_gt low)) (not (is_gt high)) (greater_not low h.0) (greater_not high h.1),
+    )
+meets_iff from upto PartGone = (λ h. tt, λ h. refl)

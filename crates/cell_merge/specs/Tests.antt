@@ -1,11 +1,13 @@
 -- The tests that the code computes; `proofs/TestLaws` says what each tells.
-use Rattle.std.specs.Prelude.{◌==◌, ◌&&◌, ℕ, Bool, true, false, not, is_none, Option, List}
-use Rattle.std.specs.Ordering.{is_lt, is_gt}
+use Rattle.std.specs.Prelude.{◌==◌, ◌&&◌, ℕ, Bool, true, false, not, is_none, Option, List, int_le, if◌then◌else◌}
+use Rattle.std.specs.Ordering.{is_eq, is_lt, is_gt, is_ge}
+use Rattle.std.specs.declared.cmp.Ordering.{Ordering}
 use Rattle.std.specs.Cmp.Lexicographic.{pointwise}
 use Rattle.changes.specs.declared.Bound.{Bound}
 use Rattle.changes.specs.declared.Place.{Place}
 use Rattle.changes.specs.declared.Place.TheVariants.{Cell, Marker, RowGone, RangeGone, PartGone}
-use Rattle.changes.specs.Order.{bound_signs, row_signs, signs_cmp}
+use Rattle.changes.specs.declared.Held.{Held}
+use Rattle.changes.specs.Order.{bound_signs, row_signs, signs_cmp, rank_cmp}
 use Rattle.std.specs.Bool.{beq}
 
 abbrev pub is_same_bytes : List ℕ → List ℕ → Bool
@@ -43,3 +45,27 @@ is_deletion_by (Marker row) value = false
 is_deletion_by (RowGone row) value = true
 is_deletion_by (RangeGone from upto) value = true
 is_deletion_by PartGone value = true
+
+-- whether x's place is y's and the ranks pass the test, or x is not earlier and y lies in its place
+abbrev pub stands_by : (Ordering → Bool) → Held → Held → Bool
+stands_by test x y = if is_same_place x.place y.place then test (rank_cmp x y) else int_le y.timestamp x.timestamp && is_within x.place y.place
+
+abbrev pub outranks_by : Held → Held → Bool
+outranks_by x y = stands_by is_gt x y
+
+-- whether x is y or outranks it
+abbrev pub reaches_by : Held → Held → Bool
+reaches_by x y = stands_by is_ge x y
+
+-- whether both are one
+abbrev pub same_by : Held → Held → Bool
+same_by x y = is_same_place x.place y.place && is_eq (rank_cmp x y)
+
+-- whether a place meets the bounds
+abbrev pub meets_by : Bound → Bound → Place → Bool
+meets_by from upto (Cell row column) = is_between_by from upto row
+meets_by from upto (Marker row) = is_between_by from upto row
+meets_by from upto (RowGone row) = is_between_by from upto row
+meets_by from upto (RangeGone a b) =
+    not (is_gt (signs_cmp (bound_signs a) (bound_signs upto))) && not (is_gt (signs_cmp (bound_signs from) (bound_signs b)))
+meets_by from upto PartGone = true

@@ -4,7 +4,7 @@
 ghost use Rattle.std.specs.Prelude.{◌≡◌, ◌≢◌, ◌↔◌, ◌==◌, ◌≤◌, IsTrue};
 ghost use Rattle.std.specs.Ordering.{is_lt};
 ghost use Rattle.changes.specs.Order.{Beats, Covers, Outranks, Encloses, IsDeletion, bound_signs, row_signs, signs, end_of, signs_cmp, rank_cmp, value_cmp};
-ghost use Rattle.cell_merge.specs.Tests.{is_same_place, is_within, is_deletion_by, is_between_by};
+ghost use Rattle.cell_merge.specs.Tests.{is_same_place, is_within, is_deletion_by, is_between_by, outranks_by, reaches_by, same_by, meets_by};
 
 use changes::{Bound, Held, Place};
 use cs_base::Bytes;
@@ -161,11 +161,48 @@ pub fn covers(x: &Held, y: &Held) -> bool
 pub fn outranks(x: &Held, y: &Held) -> bool
     ensures { IsTrue result ↔ Outranks x.now y.now }
 {
+    stands_above(x, y)
+}
+
+/// `outranks`, as lists of changes ask it.
+pub(crate) fn stands_above(x: &Held, y: &Held) -> bool
+    ensures { result ≡ outranks_by x.now y.now }
+{
     if same_place(&x.place, &y.place) {
-        return rank(x, y) == Ordering::Greater;
+        return rank(x, y).is_gt();
     }
-    if x.timestamp < y.timestamp {
-        return false;
+    y.timestamp <= x.timestamp && lies_within(&x.place, &y.place)
+}
+
+/// Whether the first change is the second or outranks it.
+pub(crate) fn reaches(x: &Held, y: &Held) -> bool
+    ensures { result ≡ reaches_by x.now y.now }
+{
+    if same_place(&x.place, &y.place) {
+        return rank(x, y).is_ge();
     }
-    lies_within(&x.place, &y.place)
+    y.timestamp <= x.timestamp && lies_within(&x.place, &y.place)
+}
+
+/// Whether both are one change.
+pub(crate) fn is_same(x: &Held, y: &Held) -> bool
+    ensures { result ≡ same_by x.now y.now }
+{
+    same_place(&x.place, &y.place) && rank(x, y).is_eq()
+}
+
+/// Whether a place is in a row between the bounds, or is that of a deletion of rows that meets them.
+pub(crate) fn meets(from: &Bound, upto: &Bound, place: &Place) -> bool
+    ensures { result ≡ meets_by from.now upto.now place.now }
+{
+    match place {
+        Place::Cell(row, _) | Place::Marker(row) | Place::RowGone(row) => {
+            is_between(from, upto, row)
+        }
+        Place::RangeGone(start, end) => {
+            bound_order(start, upto) != Ordering::Greater
+                && bound_order(from, end) != Ordering::Greater
+        }
+        Place::PartGone => true,
+    }
 }

@@ -65,7 +65,7 @@ value_exact None (Some y) p = cc
 value_exact (Some x) None p = cc
 value_exact (Some x) (Some y) p = ap (λ (n : List ℕ). Some n) (bytes_exact x y p)
 
-int_exact : (x y : ℤ) → int_cmp x y ≡ Equal → x ≡ y
+pub int_exact : (x y : ℤ) → int_cmp x y ≡ Equal → x ≡ y
 int_exact x y p = let r = int_ranked x y (int_cmp x y) refl in rw p at r
 
 pub request_made : {a b : ReqId} → a.node ≡ b.node → a.time ≡ b.time → a ≡ b

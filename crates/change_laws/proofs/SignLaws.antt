@@ -85,6 +85,10 @@ below_upto a b c p q =
       | inr (inr greater) ↦ absurd (q greater)
     ]
 
+-- two steps up
+pub below_not_above : (a b c : List (ℕ × ℕ)) → StandsBelow a b → StandsBelow b c → NotAbove a c
+below_not_above a b c p q over = let r = signs_total.trans a b c p q in cc
+
 pub NotAbove_refl : (a : List (ℕ × ℕ)) → NotAbove a a
 NotAbove_refl a p = let e = tied_itself signs_total a in cc
 

@@ -6,6 +6,7 @@ use Rattle.std.specs.Cmp.Lexicographic.{slice_cmp}
 use Rattle.std.specs.declared.cmp.Ordering.{Ordering}
 use Rattle.std.specs.declared.cmp.Ordering.TheVariants.{Less, Equal, Greater}
 use Rattle.cs_base.specs.Requests.{request_cmp}
+use Rattle.changes.specs.declared.Partition.{Partition}
 use Rattle.changes.specs.declared.Bound.{Bound}
 use Rattle.changes.specs.declared.Place.{Place}
 use Rattle.changes.specs.declared.Place.TheVariants.{Cell, Marker, RowGone, RangeGone, PartGone}
@@ -115,3 +116,7 @@ Outranks x y = Beats x y ⊎ (Covers x y × (x ≢ y))
 -- both changes are of one row, or they are one change
 abbrev pub IsBeside : Held → Held → Type 0
 IsBeside x y = (x ≡ y) ⊎ ((row : List ℕ) × (row_of x.place ≡ Some row) × (row_of y.place ≡ Some row))
+
+-- partitions by table, then token, then key
+abbrev pub partition_cmp : Partition → Partition → Ordering
+partition_cmp a b = ordering_then (nat_cmp a.table b.table) (ordering_then (int_cmp a.token b.token) (slice_cmp nat_cmp a.key b.key))

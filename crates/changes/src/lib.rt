@@ -4,10 +4,15 @@
 //! key's columns first, then the clustering columns, then the others by name.
 #![tactic(auto)]
 
+mod copies;
+mod drafts;
+#[cfg(test)]
+mod tests;
+
 use cs_base::{Bytes, Items, Micros, ReqId};
 
 /// A partition: its table, and the key whose token places it.
-#[derive(Debug, PartialEq, Eq, Drop)]
+#[derive(Debug, PartialEq, Eq, PartialOrd, Ord, Drop)]
 pub struct Partition {
     pub table: u16,
     pub token: i64,
@@ -62,6 +67,23 @@ pub type Helds = Items<Held>;
 pub struct Mutation {
     pub partition: Partition,
     pub changes: Helds,
+}
+
+/// A change that a statement asks for. Without a timestamp of its own it gets the start time of its request.
+#[derive(Debug, PartialEq, Eq, Drop)]
+pub struct Draft {
+    pub place: Place,
+    pub value: Option<Bytes>,
+    pub timestamp: Option<i64>,
+}
+
+pub type Drafts = Items<Draft>;
+
+/// The changes of one partition that a statement asks for.
+#[derive(Debug, Drop)]
+pub struct DraftMutation {
+    pub partition: Partition,
+    pub changes: Drafts,
 }
 
 /// A read of the rows of a partition between two bounds, in clustering order or reversed, up to a limit.

@@ -1,4 +1,5 @@
 pub mod Numbered
+pub mod ByNumber
 pub mod Places
 pub mod Ranges
 pub mod Repeats

@@ -1,7 +1,7 @@
 //! The ring of the nodes' tokens.
 
-ghost use Rattle.std.specs.Prelude.{◌≡◌, ◌↔◌, ◌≤◌, ◌<◌, IsTrue, IsNone, IfOk, IfNone, IfSome, Some, Contains, length};
-ghost use Rattle.cs_base.specs.Ring.{clockwise, place_of, AreApart, AreTokens, IsRing, IsOwnRange};
+ghost use Rattle.std.specs.Prelude.{◌≡◌, ◌↔◌, ◌≤◌, ◌<◌, IsTrue, IsNone, IfOk, IfNone, IfSome, Some, Contains, length, slice_get, cond, ◌++◌, ◌∷◌, []};
+ghost use Rattle.cs_base.specs.Ring.{clockwise, place_of, is_replica_at, replicas_at, AreApart, AreTokens, IsRing, IsOwnRange};
 ghost use Rattle.token_ring.specs.Placement.{AreReplicas, IsAtPlace};
 ghost use Rattle.token_ring.specs.Refusals.{IsFirstRepeated, IsRefusal, message_of};
 
@@ -122,6 +122,17 @@ impl Ring {
         }
     }
 
+    /// Fills `out` with the same replicas by rising node number, without an allocation.
+    pub fn replicas_by_number(&self, token: i64, rf: u8, out: &mut Replicas)
+        ensures { out.new ≡ replicas_at self.now rf token }
+    {
+        let tokens = self.tokens();
+        out.clear();
+        for node in 0..tokens.len() {
+            add_replica(tokens, token, rf, node, out);
+        }
+    }
+
     /// The range that the node owns: above the token before its own, up to its own.
     pub fn range(&self, node: NodeId) -> Range
         requires { node < length self.now }
@@ -135,6 +146,34 @@ impl Ring {
             upto,
         }
     }
+}
+
+/// Whether the node's token is one of the first so many, clockwise from the token.
+fn is_replica(tokens: &[i64], token: i64, rf: u8, node: usize) -> bool
+    requires ring { IsRing tokens.now }
+    requires node { node < length tokens.now }
+    ensures { result ≡ is_replica_at tokens.now rf token (slice_get tokens.now node) }
+{
+    place_of_token(tokens, token, tokens[node]) < rf
+}
+
+/// Adds the node if it is a replica.
+fn add_replica(tokens: &[i64], token: i64, rf: u8, node: usize, out: &mut Replicas)
+    requires ring { IsRing tokens.now }
+    requires node { node < length tokens.now }
+    requires room { length out.old ≤ node }
+    ensures { out.new ≡ out.old ++ cond (is_replica_at tokens.now rf token (slice_get tokens.now node)) (node ∷ []) [] }
+{
+    if is_replica(tokens, token, rf, node) {
+        out.push(node_of(node));
+    }
+}
+
+fn node_of(number: usize) -> NodeId
+    requires { number ≤ 6 }
+    ensures { result ≡ number }
+{
+    NodeId::new(number as u8).unwrap()
 }
 
 /// The node whose token is the one before which so many come, clockwise from the token.
@@ -218,6 +257,26 @@ mod tests {
                 for (node, number) in replicas.as_slice().iter().zip(want) {
                     assert_eq!(rt; node.number(), number, "at {token}");
                 }
+            }
+        }
+        Ok(())
+    }
+
+    #[test]
+    fn lists_replicas_by_number(rt: HostRuntime) -> Result<(), Fail> {
+        let ring = Ring::new(&TOKENS)?;
+        let mut replicas = Replicas::new();
+        let rows = [
+            (0, 1, [0, 9, 9]),
+            (1, 2, [1, 2, 9]),
+            (i64::MAX, 2, [0, 2, 9]),
+            (1, 3, [0, 1, 2]),
+        ];
+        for (token, rf, want) in rows {
+            ring.replicas_by_number(token, rf, &mut replicas);
+            assert_eq!(rt; replicas.len(), usize::from(rf), "at {token}");
+            for (node, number) in replicas.as_slice().iter().zip(want) {
+                assert_eq!(rt; node.number(), number, "at {token}");
             }
         }
         Ok(())

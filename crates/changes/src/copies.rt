@@ -1,0 +1,104 @@
+//! Equal values in memory of their own.
+
+ghost use Rattle.std.specs.Prelude.{◌≡◌, IfOk};
+
+use crate::{Bound, Held, Helds, Mutation, Partition, Place, Query};
+use cs_base::{Bytes, Items};
+use std::alloc::{AllocError, Global};
+
+pub(crate) fn copy_value(alloc: Global, value: &Option<Bytes>) -> Result<Option<Bytes>, AllocError>
+    ensures { IfOk result (λ copy. copy ≡ value.now) }
+{
+    match value {
+        Some(bytes) => Ok(Some(bytes.copy(alloc)?)),
+        None => Ok(None),
+    }
+}
+
+fn copy_helds(alloc: Global, helds: &Helds) -> Result<Helds, AllocError>
+    ensures { IfOk result (λ copy. copy ≡ helds.now) }
+{
+    let mut copy = Items::new(alloc);
+    for held in helds.as_slice() {
+        copy.push(held.copy(alloc)?)?;
+    }
+    Ok(copy)
+}
+
+impl Partition {
+    pub fn copy(&self, alloc: Global) -> Result<Partition, AllocError>
+        ensures { IfOk result (λ copy. copy ≡ self.now) }
+    {
+        Ok(Partition {
+            table: self.table,
+            token: self.token,
+            key: self.key.copy(alloc)?,
+        })
+    }
+}
+
+impl Bound {
+    pub fn copy(&self, alloc: Global) -> Result<Bound, AllocError>
+        ensures { IfOk result (λ copy. copy ≡ self.now) }
+    {
+        Ok(Bound {
+            at: self.at.copy(alloc)?,
+            after: self.after,
+        })
+    }
+}
+
+impl Place {
+    pub fn copy(&self, alloc: Global) -> Result<Place, AllocError>
+        ensures { IfOk result (λ copy. copy ≡ self.now) }
+    {
+        match self {
+            Place::Cell(row, column) => Ok(Place::Cell(row.copy(alloc)?, *column)),
+            Place::Marker(row) => Ok(Place::Marker(row.copy(alloc)?)),
+            Place::RowGone(row) => Ok(Place::RowGone(row.copy(alloc)?)),
+            Place::RangeGone(from, upto) => {
+                Ok(Place::RangeGone(from.copy(alloc)?, upto.copy(alloc)?))
+            }
+            Place::PartGone => Ok(Place::PartGone),
+        }
+    }
+}
+
+impl Held {
+    pub fn copy(&self, alloc: Global) -> Result<Held, AllocError>
+        ensures { IfOk result (λ copy. copy ≡ self.now) }
+    {
+        Ok(Held {
+            place: self.place.copy(alloc)?,
+            value: copy_value(alloc, &self.value)?,
+            timestamp: self.timestamp,
+            submitted: self.submitted,
+            request: self.request,
+        })
+    }
+}
+
+impl Mutation {
+    pub fn copy(&self, alloc: Global) -> Result<Mutation, AllocError>
+        ensures { IfOk result (λ copy. copy ≡ self.now) }
+    {
+        Ok(Mutation {
+            partition: self.partition.copy(alloc)?,
+            changes: copy_helds(alloc, &self.changes)?,
+        })
+    }
+}
+
+impl Query {
+    pub fn copy(&self, alloc: Global) -> Result<Query, AllocError>
+        ensures { IfOk result (λ copy. copy ≡ self.now) }
+    {
+        Ok(Query {
+            partition: self.partition.copy(alloc)?,
+            from: self.from.copy(alloc)?,
+            upto: self.upto.copy(alloc)?,
+            reversed: self.reversed,
+            limit: self.limit,
+        })
+    }
+}
