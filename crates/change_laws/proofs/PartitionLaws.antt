@@ -35,7 +35,7 @@ apart_by a b o is other same = other (sym is ∙ ap (partition_cmp a) (sym same)
 -- two partitions are one, or they differ
 pub same_or_apart : (a b : Partition) → (a ≡ b) ⊎ (a ≢ b)
 same_or_apart a b = elim (cases_ordering (partition_cmp a b)) [
-    | inl less ↦ inr (apart_by a b Less less (λ e. cc))
-    | inr (inl equal) ↦ inl (partition_exact a b equal)
-    | inr (inr greater) ↦ inr (apart_by a b Greater greater (λ e. cc))
-  ]
+  | inl less ↦ inr (apart_by a b Less less (λ e. cc))
+  | inr (inl equal) ↦ inl (partition_exact a b equal)
+  | inr (inr greater) ↦ inr (apart_by a b Greater greater (λ e. cc))
+]
