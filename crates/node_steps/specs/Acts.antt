@@ -1,0 +1,77 @@
+-- The small moves of a node: each takes one thing, and is told of that node's state alone.
+use Rattle.std.specs.Prelude.{◌≡◌, ℕ, ◌<◌, ◌==◌, if◌then◌else◌, Bool, List, [], ◌∷◌, ◌++◌}
+use Rattle.cs_base.specs.declared.ids.ReqId.{ReqId}
+use Rattle.changes.specs.declared.Held.{Held}
+use Rattle.peer_messages.specs.declared.event.Ask.{Ask}
+use Rattle.peer_messages.specs.declared.message.Body.{Body}
+use Rattle.peer_messages.specs.declared.message.Body.TheVariants.{Write, WriteAck, Read, ReadReply}
+use Rattle.peer_messages.specs.declared.outcome.Outbound.{Outbound}
+use Rattle.peer_messages.specs.declared.outcome.Move.{Move}
+use Rattle.peer_messages.specs.declared.setting.Setting.{Setting}
+use Rattle.node_steps.specs.State.{NodeState, OpenWrite, OpenRead}
+use Rattle.node_steps.specs.Effects.{Effects, nothing, effects_of, AtRequest}
+use Rattle.node_steps.specs.Writes.{HearsAck}
+use Rattle.node_steps.specs.Reads.{HearsReply}
+use Rattle.node_steps.specs.Replicas.{Asker, replies, TakesIn, IsAnswerTo}
+use Rattle.node_steps.specs.Requests.{refusal_of, BeginsOrRefuses}
+
+-- a body that comes to a node, its own ones too
+pub record Incoming : Type 0 where
+  pub from : ℕ
+  pub request : ReqId
+  pub body : Body
+
+pub data Act : Type 0 where
+  -- node time rises, at the beginning of a step
+  Rises : (time : ℕ) → Act
+  -- a body comes
+  Hears : (incoming : Incoming) → Act
+  -- a client asks
+  Asks : (ask : Ask) → Act
+
+abbrev pub request_at : ℕ → ℕ → ReqId
+request_at me time = record { node = me; time = time }
+
+abbrev pub AtWrite : (OpenWrite → Move → OpenWrite → Type 0) → ReqId → NodeState → Effects → NodeState → Type 0
+AtWrite Step id s o s' = (turn : Move) × AtRequest Step id s.writes turn s'.writes × (o ≡ effects_of turn) × (s' ≡ record s { writes = s'.writes })
+
+abbrev pub AtRead : (OpenRead → Move → OpenRead → Type 0) → ReqId → NodeState → Effects → NodeState → Type 0
+AtRead Step id s o s' = (turn : Move) × AtRequest Step id s.reads turn s'.reads × (o ≡ effects_of turn) × (s' ≡ record s { reads = s'.reads })
+
+-- by what came
+abbrev pub HearsBody : Setting → Asker → Body → NodeState → Effects → NodeState → Type 0
+HearsBody c a (Write m) s o s' = TakesIn s.content m.partition m.changes s'.content × (o ≡ replies a WriteAck) × (s' ≡ record s { content = s'.content })
+HearsBody c a WriteAck s o s' = AtWrite (HearsAck c a.request a.from) a.request s o s'
+HearsBody c a (Read q) s o s' = (part : List Held) × IsAnswerTo s.content q part × (o ≡ replies a (ReadReply part)) × (s' ≡ s)
+HearsBody c a (ReadReply content) s o s' = AtRead (HearsReply c a.request a.from content) a.request s o s'
+
+-- From s node me may make this move, and give these effects
+abbrev pub Does : Setting → ℕ → NodeState → Act → Effects → NodeState → Type 0
+Does c me s (Rises time) o s' = (s.time < time) × (o ≡ nothing) × (s' ≡ record s { time = time })
+Does c me s (Hears m) o s' = HearsBody c (record { from = m.from; request = m.request }) m.body s o s'
+Does c me s (Asks ask) o s' = BeginsOrRefuses c (request_at me s.time) ask.plan ask.level (refusal_of c ask.plan ask.level) s o s'
+
+-- a move that was made, with all that can be known of it
+pub record Deed : Type 0 where
+  pub node : ℕ
+  pub act : Act
+  pub before : NodeState
+  pub after : NodeState
+  pub effects : Effects
+
+-- what a node sends to itself it hears, in the order in which it sends it
+abbrev pub own_sends : ℕ → List Outbound → List Act
+own_sends me [] = []
+own_sends me (x ∷ xs) =
+    if x.upto == me then Hears (record { from = me; request = x.request; body = x.body }) ∷ own_sends me xs else own_sends me xs
+
+-- From s, with these matters to take, node me has made these deeds, is at s', and has yet to hear `pending` of its own and
+-- to take the matters `left`: each matter is followed by what comes of it at the node itself
+pub data Chain (c : Setting) (me : ℕ) (s : NodeState) (matters : List Act) : List Deed → NodeState → List Act → List Act → Type 0 where
+  begun : Chain c me s matters [] s [] matters
+  own : (deeds : List Deed) (mid s' : NodeState) (a : Act) (pending left : List Act) (o : Effects)
+      → Chain c me s matters deeds mid (a ∷ pending) left → Does c me mid a o s'
+      → Chain c me s matters (deeds ++ record { node = me; act = a; before = mid; after = s'; effects = o } ∷ []) s' (pending ++ own_sends me o.sends) left
+  matter : (deeds : List Deed) (mid s' : NodeState) (a : Act) (left : List Act) (o : Effects)
+      → Chain c me s matters deeds mid [] (a ∷ left) → Does c me mid a o s'
+      → Chain c me s matters (deeds ++ record { node = me; act = a; before = mid; after = s'; effects = o } ∷ []) s' (own_sends me o.sends) left

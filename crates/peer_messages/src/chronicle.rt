@@ -1,0 +1,55 @@
+//! The entries of a chronicle: what was asked of the nodes, what was submitted, and what clients were told.
+
+use crate::nodes::NodeIds;
+use cell_merge::Content;
+use changes::{Mutation, Query, ShownRows};
+use cs_base::{Items, Level, Micros, NodeId, ReqId};
+
+/// Why a request is invalid.
+#[derive(Clone, Copy, Debug, PartialEq, Eq)]
+pub enum Invalid {
+    /// A write at `SERIAL` or `LOCAL_SERIAL`.
+    SerialWrite,
+    /// A level at which this request can't be done.
+    Level,
+    /// A table that isn't there.
+    UnknownTable,
+}
+
+/// A refusal, as a client is told it.
+#[derive(Clone, Copy, Debug, PartialEq, Eq)]
+pub enum Refusal {
+    /// How many replicas are needed, and how many are alive.
+    Unavailable { required: u8, alive: u8 },
+    Overloaded,
+    Invalid(Invalid),
+}
+
+/// What the answer of a read rests on: the replicas that replied, in order, and the merge of their replies.
+#[derive(Drop)]
+pub struct Grounds {
+    pub heard: NodeIds,
+    pub merged: Content,
+}
+
+/// What happened, for who reads the chronicle. The replicas heard of and the grounds of a read are not printed.
+#[derive(Drop)]
+pub enum Entry {
+    /// A client's request came; one that its node could not begin has no id.
+    Asked(Option<ReqId>),
+    /// Its changes were submitted.
+    Submitted(ReqId, Mutation),
+    /// A write was acknowledged, and by these replicas.
+    Acked(ReqId, Level, NodeIds),
+    Refused(ReqId, Refusal),
+    /// A read began.
+    Began(ReqId, Query, Level),
+    /// It was answered with rows, and with whether a further row would follow.
+    Rows(ReqId, ShownRows, bool, Grounds),
+    /// The node's time after an event.
+    Time(NodeId, Micros),
+    /// A request that the node could not begin.
+    Turned(NodeId, Refusal),
+}
+
+pub type Entries = Items<Entry>;

@@ -1,0 +1,36 @@
+//! What a node's step takes.
+
+use crate::message::Message;
+use changes::{DraftMutation, Query};
+use cs_base::{Level, Micros};
+
+/// What a statement asks for.
+#[derive(Drop)]
+pub enum Plan {
+    Write(DraftMutation),
+    Read(Query),
+}
+
+/// A client's request: what it asks for, and how many replicas it waits for.
+#[derive(Drop)]
+pub struct Ask {
+    pub plan: Plan,
+    pub level: Level,
+}
+
+#[derive(Drop)]
+pub enum What {
+    /// A client asks.
+    Client(Ask),
+    /// A message comes.
+    Deliver(Message),
+    /// Nothing but time.
+    Tick,
+}
+
+/// An event, with the reading of the node's clock.
+#[derive(Drop)]
+pub struct Event {
+    pub clock: Micros,
+    pub what: What,
+}

@@ -1,0 +1,182 @@
+-- Each move keeps what is known.
+use Rattle.std.proofs.Common.{◌≡◌, ◌≢◌, ℕ, ◌⊎◌, ◌<◌, ◌≤◌, inl, inr, Bool, true, false, cond, Option, Some, None, List, [], ◌∷◌, ◌++◌, refl, sym, ap, subst, ◌∙◌, arith, Contains, reverse, map}
+use Rattle.std.specs.Prelude.{slice_get, slice_set, ◌==◌, ◌&&◌, not, if◌then◌else◌, MatchBool, nat_lt}
+use Rattle.std.specs.Ordering.{is_eq, nat_cmp}
+use Rattle.std.specs.declared.cmp.Ordering.{Ordering}
+use Rattle.std.specs.declared.cmp.Ordering.TheVariants.{Less, Equal, Greater}
+use Rattle.std.specs.Map.{lookup, set_value, remove_entry}
+use Rattle.std.specs.BTreeMap.{is_at, insert_entry}
+use Rattle.std.proofs.lemmas.Bool.{cases_Bool}
+use Rattle.std.proofs.lemmas.Map.Lookups.{exact_unsigned}
+use Rattle.cs_base.specs.declared.ids.ReqId.{ReqId}
+use Rattle.cs_base.specs.declared.level.Level.{Level}
+use Rattle.cs_base.specs.Requests.{request_cmp}
+use Rattle.cs_base.specs.Quorums.{is_in, heard_of}
+use Rattle.changes.specs.declared.Partition.{Partition}
+use Rattle.changes.specs.declared.Held.{Held}
+use Rattle.changes.specs.declared.Mutation.{Mutation}
+use Rattle.changes.specs.declared.DraftMutation.{DraftMutation}
+use Rattle.changes.specs.declared.Query.{Query}
+use Rattle.changes.specs.Drafts.{mutation_of}
+use Rattle.changes.specs.Contents.{IsReachedBy, IsMergeOf}
+use Rattle.changes.specs.Queries.{InQuery}
+use Rattle.change_laws.proofs.SignLaws.{then_equal}
+use Rattle.change_laws.proofs.OrderLaws.{request_made}
+use Rattle.change_laws.proofs.Members.{contains_nil, contains_cases, contains_here, contains_there, contains_one, contains_push, contains_from_map, from_insert_entry}
+use Rattle.peer_messages.specs.declared.event.Ask.{Ask}
+use Rattle.peer_messages.specs.declared.event.Plan.{Plan}
+use Rattle.peer_messages.specs.declared.event.Plan.TheVariants as plan
+use Rattle.peer_messages.specs.declared.message.Body.{Body}
+use Rattle.peer_messages.specs.declared.message.Body.TheVariants.{Write, WriteAck, Read, ReadReply}
+use Rattle.peer_messages.specs.declared.chronicle.Entry.{Entry}
+use Rattle.peer_messages.specs.declared.chronicle.Entry.TheVariants.{Asked, Submitted, Acked, Refused, Began, Rows, Time, Turned}
+use Rattle.peer_messages.specs.declared.chronicle.Refusal.{Refusal}
+use Rattle.peer_messages.specs.declared.outcome.Outbound.{Outbound}
+use Rattle.peer_messages.specs.declared.outcome.Move.{Move}
+use Rattle.peer_messages.specs.declared.setting.Setting.{Setting}
+use Rattle.peer_messages.specs.Settings.{replicas_of, needed, with_heard}
+use Rattle.peer_messages.specs.Moves.{quiet, tells}
+use Rattle.node_steps.specs.State.{NodeState, OpenWrite, OpenRead, Holds}
+use Rattle.node_steps.specs.Effects.{Effects, nothing, effects_of, outbound, send_to, open_at, after_move, Takes, AtRequest}
+use Rattle.node_steps.specs.Writes.{CountsAck, HearsAck, start_write, started_write}
+use Rattle.node_steps.specs.Reads.{is_stray, TellsRows, CountsReply, MergesReply, HearsReply, start_read, started_read}
+use Rattle.node_steps.specs.Replicas.{Asker, replies, TakesIn, IsAnswerTo}
+use Rattle.node_steps.specs.Requests.{refusal_of, Begins, BeginsOrRefuses}
+use Rattle.node_steps.specs.Acts.{Act, Rises, Hears, Asks, Incoming, Deed, Does, HearsBody, AtWrite, AtRead}
+use Rattle.cluster_runs.specs.Chronicle.{submission_of}
+use Rattle.cluster_runs.specs.Trace.{Scene, WasMade, IsAskAt, MayTake}
+use Rattle.read_consistency.specs.ReadRight.{IsRight}
+use Rattle.read_consistency.proofs.Facts.{WasBegun, Reaches, HasAll, IsOf, Sees, Answers, ReplyOk, BodyIs, BodyOk, WriteOk, ReadIs, ReadOk, NodeOk, AckedOk, Explains}
+use Rattle.read_consistency.proofs.Grows.{Grows, begun_on, has_all_on, of_on, query_on, stands_in, write_on, read_on, node_on, reply_on, answers_on, sees_on, itself, submission_in}
+use Rattle.read_consistency.proofs.Reach.{grown, taken, source, slice_reached, merge_first, merge_second, merge_answers}
+use Rattle.read_consistency.proofs.Answer.{right_answer}
+use Rattle.read_consistency.proofs.Step.{deed_of, quietly, telling, quietly_grows, telling_grows, explains_quietly, explains_telling}
+
+-- the scene behind a move
+abbrev pub next : Scene → ℕ → Act → NodeState → Effects → NodeState → Scene
+next w k a s o s' = record { nodes = slice_set w.nodes k s'; chronicle = reverse o.entries ++ w.chronicle; past = deed_of k a s s' o ∷ w.past }
+
+pub some_one : {X : Type 0} {x y : X} → Some x ≡ Some y → x ≡ y
+some_one h = cc
+
+pub request_exact : (a b : ReqId) → request_cmp a b ≡ Equal → a ≡ b
+request_exact a b e = let both = then_equal (nat_cmp a.node b.node) _ e in request_made (exact_unsigned a.node b.node both.0) (exact_unsigned a.time b.time both.1)
+
+pub same_node : (w : Scene) (s r : NodeState) → r.content ≡ s.content → r.writes ≡ s.writes → r.reads ≡ s.reads → NodeOk w s → NodeOk w r
+same_node w s r content writes reads h = record {
+  of = subst (λ cs. (p : Partition) (x : Held) → Holds cs p x → IsOf w.chronicle p (Reaches cs p) x) (sym content) h.of;
+  writes = λ id o c. h.writes id o (subst (λ (es : List (ReqId × OpenWrite)). Contains es (id, o)) writes c);
+  reads = λ id o c. h.reads id o (subst (λ (es : List (ReqId × OpenRead)). Contains es (id, o)) reads c);
+}
+
+pub none_sent : (w : Scene) (k : ℕ) (x : Outbound) → Contains [] x → BodyOk w k x
+none_sent w k x h = absurd (contains_nil x h)
+
+-- ---- time rises, and a request is refused
+
+pub rises_case : (c : Setting) (w : Scene) (k t : ℕ) (s s' : NodeState) (o : Effects) → Explains c w → slice_get w.nodes k ≡ Some s → Does c k s (Rises t) o s' → Explains c (next w k (Rises t) s o s')
+rises_case c w k t s s' o e at (later, is, same) =
+    let r : NodeState = record s { time = t } in
+    let w' = quietly w k (Rises t) s r [] in
+    let g = quietly_grows w k (Rises t) s r [] at (λ p x h. h) in
+    subst (λ (x : Effects). Explains c (next w k (Rises t) s x s')) (sym is)
+    (subst (λ (x : NodeState). Explains c (next w k (Rises t) s nothing x)) (sym same)
+    (explains_quietly c w k (Rises t) s r [] e at (λ p x h. h) (same_node w' s r refl refl refl (node_on c w w' g e s (e.nodes k s at))) (none_sent w' k)))
+
+refused_case : (c : Setting) (w : Scene) (k : ℕ) (a : Act) (id : ReqId) (r : Refusal) (s s' : NodeState) (o : Effects) → Explains c w → slice_get w.nodes k ≡ Some s → o ≡ record { sends = []; entries = Refused id r ∷ [] } → s' ≡ s
+    → Explains c (next w k a s o s')
+refused_case c w k a id r s s' o e at is same =
+    let w' = telling w k a s s [] (Refused id r) in
+    let g = telling_grows w k a s s [] (Refused id r) at (λ p x h. h) tt in
+    subst (λ (x : Effects). Explains c (next w k a s x s')) (sym is)
+    (subst (λ (x : NodeState). Explains c (next w k a s (record { sends = []; entries = Refused id r ∷ [] }) x)) (sym same)
+    (explains_telling c w k a s s [] (Refused id r) e at (λ p x h. h) tt (node_on c w w' g e s (e.nodes k s at)) (none_sent w' k) tt tt))
+
+-- ---- a write begins
+
+write_case : (c : Setting) (w : Scene) (k : ℕ) (ask : Ask) (s : NodeState) (d : DraftMutation) (l : Level) → Explains c w → slice_get w.nodes k ≡ Some s → MayTake w.past k s (Asks ask)
+    → let id : ReqId = record { node = k; time = s.time } in
+    Explains c (next w k (Asks ask) s (effects_of (start_write c id d)) (record s { writes = insert_entry request_cmp s.writes id (started_write l d) }))
+write_case c w k ask s d l e at may =
+    let id : ReqId = record { node = k; time = s.time } in
+    let m = mutation_of id d in
+    let ks = replicas_of c d.partition in
+    let r : NodeState = record s { writes = insert_entry request_cmp s.writes id (started_write l d) } in
+    let w' = telling w k (Asks ask) s r (send_to id (Write m) ks) (Submitted id m) in
+    let new : WasBegun w.past id → ⊥ = λ b. may b.0 b.1 b.2 in
+    let g = telling_grows w k (Asks ask) s r (send_to id (Write m) ks) (Submitted id m) at (λ p x h. h) new in
+    let old = node_on c w w' g e s (e.nodes k s at) in
+    let begun : WasBegun w'.past id = (deed_of k (Asks ask) s r (effects_of (start_write c id d)), contains_here _ w.past, (refl, refl, (ask, refl))) in
+    let submission : submission_of w'.chronicle id ≡ Some m = ap (λ (b : Bool). if b then Some m else submission_of w.chronicle id) (itself id) in
+    let fresh : WriteOk w' id (started_write l d) = record {
+      begun = begun;
+      partition = λ n sub. ap (λ (x : Mutation). x.partition) (some_one (sym sub ∙ submission));
+      heard = λ j h. absurd (contains_nil j h);
+    } in
+    explains_telling c w k (Asks ask) s r (send_to id (Write m) ks) (Submitted id m) e at (λ p x h. h) new
+    (record {
+      of = old.of;
+      writes = λ i o h. elim (from_insert_entry request_cmp request_exact s.writes id (started_write l d) (i, o) h) [
+        | inl is ↦ subst (λ (x : ReqId × OpenWrite). WriteOk w' x.0 x.1) (sym is) fresh
+        | inr there ↦ old.writes i o there
+      ];
+      reads = old.reads;
+    })
+    (λ x h. let made = contains_from_map (outbound id (Write m)) ks x h in subst (λ (y : Outbound). BodyOk w' k y) made.2 (record { begun = begun; is = submission }))
+    begun tt
+
+-- ---- a read begins
+
+read_case : (c : Setting) (w : Scene) (k : ℕ) (ask : Ask) (s : NodeState) (q : Query) (l : Level) → Explains c w → slice_get w.nodes k ≡ Some s → MayTake w.past k s (Asks ask)
+    → let id : ReqId = record { node = k; time = s.time } in
+    Explains c (next w k (Asks ask) s (effects_of (start_read c id l q)) (record s { reads = insert_entry request_cmp s.reads id (started_read l q) }))
+read_case c w k ask s q l e at may =
+    let id : ReqId = record { node = k; time = s.time } in
+    let ks = replicas_of c q.partition in
+    let r : NodeState = record s { reads = insert_entry request_cmp s.reads id (started_read l q) } in
+    let w' = telling w k (Asks ask) s r (send_to id (Read q) ks) (Began id q l) in
+    let new : WasBegun w.past id → ⊥ = λ b. may b.0 b.1 b.2 in
+    let g = telling_grows w k (Asks ask) s r (send_to id (Read q) ks) (Began id q l) at (λ p x h. h) new in
+    let old = node_on c w w' g e s (e.nodes k s at) in
+    let begun : WasBegun w'.past id = (deed_of k (Asks ask) s r (effects_of (start_read c id l q)), contains_here _ w.past, (refl, refl, (ask, refl))) in
+    let only : (p : Query) (n : Level) → Contains w'.chronicle (Began id p n) → (p ≡ q) × (n ≡ l) =
+    λ p n h. elim (contains_cases (Began id q l) w.chronicle (Began id p n) h) [
+      | inl here ↦ let is : Began id q l ≡ Began id p n = here in (cc, cc)
+      | inr there ↦ absurd (new (e.entries (Began id p n) there))
+    ] in
+    let fresh : ReadOk w' id (started_read l q) = record {
+      begun = begun;
+      is = λ p n h.
+          let both = only p n h in
+          record {
+            query = both.0;
+            level = both.1;
+            answers = record { of = λ x there. absurd (contains_nil x there); inside = λ x there. absurd (contains_nil x there) };
+            sees = λ j there. absurd (contains_nil j there);
+          };
+    } in
+    explains_telling c w k (Asks ask) s r (send_to id (Read q) ks) (Began id q l) e at (λ p x h. h) new
+    (record {
+      of = old.of;
+      writes = old.writes;
+      reads = λ i o h. elim (from_insert_entry request_cmp request_exact s.reads id (started_read l q) (i, o) h) [
+        | inl is ↦ subst (λ (x : ReqId × OpenRead). ReadOk w' x.0 x.1) (sym is) fresh
+        | inr there ↦ old.reads i o there
+      ];
+    })
+    (λ x h. let made = contains_from_map (outbound id (Read q)) ks x h in subst (λ (y : Outbound). BodyOk w' k y) made.2 (record { begun = begun; is = λ p n there. (only p n there).0 }))
+    begun tt
+
+begins_case : (c : Setting) (w : Scene) (k : ℕ) (ask : Ask) (p : Plan) (l : Level) (s s' : NodeState) (o : Effects) → Explains c w → slice_get w.nodes k ≡ Some s → MayTake w.past k s (Asks ask)
+    → Begins c (record { node = k; time = s.time }) p l s o s' → Explains c (next w k (Asks ask) s o s')
+begins_case c w k ask (plan.Write d) l s s' o e at may (is, same) =
+    subst (λ (x : Effects). Explains c (next w k (Asks ask) s x s')) (sym is)
+    (subst (λ (x : NodeState). Explains c (next w k (Asks ask) s (effects_of (start_write c (record { node = k; time = s.time }) d)) x)) (sym same) (write_case c w k ask s d l e at may))
+begins_case c w k ask (plan.Read q) l s s' o e at may (is, same) =
+    subst (λ (x : Effects). Explains c (next w k (Asks ask) s x s')) (sym is)
+    (subst (λ (x : NodeState). Explains c (next w k (Asks ask) s (effects_of (start_read c (record { node = k; time = s.time }) l q)) x)) (sym same) (read_case c w k ask s q l e at may))
+
+pub asks_case : (c : Setting) (w : Scene) (k : ℕ) (ask : Ask) (r : Option Refusal) (s s' : NodeState) (o : Effects) → Explains c w → slice_get w.nodes k ≡ Some s → MayTake w.past k s (Asks ask)
+    → BeginsOrRefuses c (record { node = k; time = s.time }) ask.plan ask.level r s o s' → Explains c (next w k (Asks ask) s o s')
+asks_case c w k ask None s s' o e at may h = begins_case c w k ask ask.plan ask.level s s' o e at may h
+asks_case c w k ask (Some r) s s' o e at may (is, same) = refused_case c w k (Asks ask) (record { node = k; time = s.time }) r s s' o e at is same

@@ -1,0 +1,122 @@
+-- What is known at each moment of a run: of each node, of each body that was ever made, and of each entry.
+use Rattle.std.proofs.Common.{◌≡◌, ◌≢◌, ℕ, ◌⊎◌, ◌≤◌, inl, inr, Option, Some, None, List, [], ◌∷◌, ◌++◌, refl, sym, ap, subst, ◌∙◌, Contains}
+use Rattle.std.specs.Prelude.{slice_get}
+use Rattle.cs_base.specs.declared.ids.ReqId.{ReqId}
+use Rattle.cs_base.specs.declared.level.Level.{Level}
+use Rattle.cs_base.specs.Quorums.{heard_of}
+use Rattle.changes.specs.declared.Partition.{Partition}
+use Rattle.changes.specs.declared.Held.{Held}
+use Rattle.changes.specs.declared.Change.{Change}
+use Rattle.changes.specs.declared.Mutation.{Mutation}
+use Rattle.changes.specs.declared.Query.{Query}
+use Rattle.changes.specs.Order.{Outranks, IsBeside}
+use Rattle.changes.specs.Contents.{IsReachedBy}
+use Rattle.changes.specs.Queries.{InQuery}
+use Rattle.peer_messages.specs.declared.message.Body.{Body}
+use Rattle.peer_messages.specs.declared.message.Body.TheVariants.{Write, WriteAck, Read, ReadReply}
+use Rattle.peer_messages.specs.declared.chronicle.Entry.{Entry}
+use Rattle.peer_messages.specs.declared.chronicle.Entry.TheVariants.{Asked, Submitted, Acked, Refused, Began, Rows, Time, Turned}
+use Rattle.peer_messages.specs.declared.outcome.Outbound.{Outbound}
+use Rattle.peer_messages.specs.declared.setting.Setting.{Setting}
+use Rattle.peer_messages.specs.Settings.{replicas_of, needed}
+use Rattle.node_steps.specs.State.{NodeState, OpenWrite, OpenRead, Holds}
+use Rattle.node_steps.specs.Acts.{Deed}
+use Rattle.cluster_runs.specs.Chronicle.{submission_of, StandsBefore}
+use Rattle.cluster_runs.specs.Trace.{Scene, IsAskAt}
+use Rattle.read_consistency.specs.ReadRight.{ReadRight}
+
+-- the request was begun
+abbrev pub WasBegun : List Deed → ReqId → Type 0
+WasBegun past id = (d : Deed) × Contains past d × IsAskAt id.node id.time d
+
+-- the node holds the change in the partition, or one that outranks it
+abbrev pub Reaches : List Change → Partition → Held → Type 0
+Reaches content p x = Holds content p x ⊎ ((y : Held) × Holds content p y × Outranks y x)
+
+-- node j reaches all that was submitted under this id
+abbrev pub HasAll : Scene → ℕ → ReqId → Type 0
+HasAll w j id = (s : NodeState) → slice_get w.nodes j ≡ Some s → (m : Mutation) → submission_of w.chronicle id ≡ Some m → (x : Held) → Contains m.changes x → Reaches s.content m.partition x
+
+-- whatever read began under this id asks this
+abbrev pub IsQueryOf : List Entry → ReqId → Query → Type 0
+IsQueryOf chronicle id q = (r : Query) (l : Level) → Contains chronicle (Began id r l) → r ≡ q
+
+-- the change is of a submitted mutation whose changes in its row are reached too
+pub record IsOf (chronicle : List Entry) (p : Partition) (Reached : Held → Type 0) (x : Held) : Type 0 where
+  pub request : ReqId
+  pub mutation : Mutation
+  pub submitted : Contains chronicle (Submitted request mutation)
+  pub partition : mutation.partition ≡ p
+  pub there : Contains mutation.changes x
+  pub beside : (y : Held) → Contains mutation.changes y → IsBeside x y → Reached y
+
+abbrev pub ReachedIn : Query → List Held → Held → Type 0
+ReachedIn q content y = InQuery q y → IsReachedBy content y
+
+-- the content has what node j was known to have when the read began
+abbrev pub Sees : List Entry → ReqId → ℕ → Query → List Held → Type 0
+Sees chronicle read j q content =
+    (id : ReqId) (l : Level) (heard : List ℕ) → StandsBefore chronicle read (Acked id l heard) → Contains heard j
+    → (m : Mutation) → submission_of chronicle id ≡ Some m → m.partition ≡ q.partition → (x : Held) → Contains m.changes x → InQuery q x → IsReachedBy content x
+
+-- a content that answers a query
+pub record Answers (chronicle : List Entry) (q : Query) (content : List Held) : Type 0 where
+  pub of : (x : Held) → Contains content x → IsOf chronicle q.partition (ReachedIn q content) x
+  pub inside : (x : Held) → Contains content x → InQuery q x
+
+-- a reply of node j answers whatever the read of this id asks
+abbrev pub ReplyOk : Scene → ℕ → ReqId → List Held → Type 0
+ReplyOk w j id content = (q : Query) (l : Level) → Contains w.chronicle (Began id q l) → Answers w.chronicle q content × Sees w.chronicle id j q content
+
+abbrev pub BodyIs : Scene → ℕ → ReqId → Body → Type 0
+BodyIs w from id (Write m) = submission_of w.chronicle id ≡ Some m
+BodyIs w from id WriteAck = HasAll w from id
+BodyIs w from id (Read q) = IsQueryOf w.chronicle id q
+BodyIs w from id (ReadReply content) = ReplyOk w from id content
+
+pub record BodyOk (w : Scene) (from : ℕ) (x : Outbound) : Type 0 where
+  pub begun : WasBegun w.past x.request
+  pub is : BodyIs w from x.request x.body
+
+pub record WriteOk (w : Scene) (id : ReqId) (o : OpenWrite) : Type 0 where
+  pub begun : WasBegun w.past id
+  pub partition : (m : Mutation) → submission_of w.chronicle id ≡ Some m → m.partition ≡ o.partition
+  pub heard : (j : ℕ) → Contains o.heard j → HasAll w j id
+
+-- what is known of an open read, if it began with this
+pub record ReadIs (w : Scene) (id : ReqId) (o : OpenRead) (q : Query) (l : Level) : Type 0 where
+  pub query : q ≡ o.query
+  pub level : l ≡ o.level
+  pub answers : Answers w.chronicle q o.merged
+  pub sees : (j : ℕ) → Contains o.heard j → Sees w.chronicle id j q o.merged
+
+pub record ReadOk (w : Scene) (id : ReqId) (o : OpenRead) : Type 0 where
+  pub begun : WasBegun w.past id
+  pub is : (q : Query) (l : Level) → Contains w.chronicle (Began id q l) → ReadIs w id o q l
+
+pub record NodeOk (w : Scene) (s : NodeState) : Type 0 where
+  pub of : (p : Partition) (x : Held) → Holds s.content p x → IsOf w.chronicle p (Reaches s.content p) x
+  pub writes : (id : ReqId) (o : OpenWrite) → Contains s.writes (id, o) → WriteOk w id o
+  pub reads : (id : ReqId) (o : OpenRead) → Contains s.reads (id, o) → ReadOk w id o
+
+-- an acknowledged write was heard of by as many replicas as its level waits for, each of which has it
+pub record AckedOk (c : Setting) (w : Scene) (id : ReqId) (l : Level) (heard : List ℕ) : Type 0 where
+  pub begun : WasBegun w.past id
+  pub count : (m : Mutation) → submission_of w.chronicle id ≡ Some m → needed c l m.partition ≤ heard_of (replicas_of c m.partition) heard
+  pub has : (j : ℕ) → Contains heard j → HasAll w j id
+
+abbrev pub EntryOk : Setting → Scene → Entry → Type 0
+EntryOk c w (Acked id l heard) = AckedOk c w id l heard
+EntryOk c w (Submitted id m) = WasBegun w.past id
+EntryOk c w (Began id q l) = WasBegun w.past id
+EntryOk c w (Asked r) = Unit {0}
+EntryOk c w (Refused r refusal) = Unit {0}
+EntryOk c w (Rows r rows more grounds) = Unit {0}
+EntryOk c w (Time k t) = Unit {0}
+EntryOk c w (Turned k refusal) = Unit {0}
+
+pub record Explains (c : Setting) (w : Scene) : Type 0 where
+  pub nodes : (k : ℕ) (s : NodeState) → slice_get w.nodes k ≡ Some s → NodeOk w s
+  pub bodies : (d : Deed) → Contains w.past d → (x : Outbound) → Contains d.effects.sends x → BodyOk w d.node x
+  pub entries : (e : Entry) → Contains w.chronicle e → EntryOk c w e
+  pub right : ReadRight c w.chronicle

@@ -1,0 +1,339 @@
+-- Each body that a node hears keeps what is known.
+use Rattle.std.proofs.Common.{◌≡◌, ◌≢◌, ℕ, ◌⊎◌, ◌<◌, ◌≤◌, inl, inr, Bool, true, false, cond, Option, Some, None, List, [], ◌∷◌, ◌++◌, refl, sym, ap, subst, ◌∙◌, arith, Contains, reverse, map}
+use Rattle.std.specs.Prelude.{slice_get, slice_set, ◌==◌, ◌&&◌, not, if◌then◌else◌, MatchBool, nat_lt}
+use Rattle.std.specs.Ordering.{is_eq, nat_cmp}
+use Rattle.std.specs.declared.cmp.Ordering.{Ordering}
+use Rattle.std.specs.declared.cmp.Ordering.TheVariants.{Less, Equal, Greater}
+use Rattle.std.specs.Map.{lookup, set_value, remove_entry}
+use Rattle.std.specs.BTreeMap.{is_at}
+use Rattle.std.proofs.lemmas.Bool.{cases_Bool, ltb-false, MatchBool-at_true, MatchBool-at_false}
+use Rattle.std.proofs.lemmas.Map.Views.{Contains-from_lookup}
+use Rattle.cs_base.specs.declared.ids.ReqId.{ReqId}
+use Rattle.cs_base.specs.declared.level.Level.{Level}
+use Rattle.cs_base.specs.Requests.{request_cmp}
+use Rattle.cs_base.specs.Quorums.{is_in, heard_of}
+use Rattle.changes.specs.declared.Partition.{Partition}
+use Rattle.changes.specs.declared.Held.{Held}
+use Rattle.changes.specs.declared.Mutation.{Mutation}
+use Rattle.changes.specs.declared.Query.{Query}
+use Rattle.changes.specs.declared.ShownRow.{ShownRow}
+use Rattle.changes.specs.Contents.{IsReachedBy, IsMergeOf}
+use Rattle.changes.specs.Queries.{InQuery}
+use Rattle.changes.specs.Shown.{IsShown}
+use Rattle.change_laws.proofs.Members.{contains_nil, contains_cases, contains_here, contains_there, contains_one, contains_push, contains_from_map}
+use Rattle.peer_messages.specs.declared.message.Body.{Body}
+use Rattle.peer_messages.specs.declared.message.Body.TheVariants.{Write, WriteAck, Read, ReadReply}
+use Rattle.peer_messages.specs.declared.chronicle.Entry.{Entry}
+use Rattle.peer_messages.specs.declared.chronicle.Entry.TheVariants.{Asked, Submitted, Acked, Refused, Began, Rows, Time, Turned}
+use Rattle.peer_messages.specs.declared.outcome.Outbound.{Outbound}
+use Rattle.peer_messages.specs.declared.outcome.Move.{Move}
+use Rattle.peer_messages.specs.declared.setting.Setting.{Setting}
+use Rattle.peer_messages.specs.Settings.{replicas_of, needed, with_heard}
+use Rattle.peer_messages.specs.Moves.{quiet, tells}
+use Rattle.node_steps.specs.State.{NodeState, OpenWrite, OpenRead, Holds}
+use Rattle.node_steps.specs.Effects.{Effects, nothing, effects_of, outbound, send_to, open_at, after_move, Takes, AtRequest}
+use Rattle.node_steps.specs.Writes.{CountsAck, HearsAck}
+use Rattle.node_steps.specs.Reads.{is_stray, TellsRows, CountsReply, MergesReply, HearsReply}
+use Rattle.node_steps.specs.Replicas.{Asker, replies, TakesIn, IsAnswerTo}
+use Rattle.node_steps.specs.Acts.{Act, Hears, Incoming, Deed, HearsBody}
+use Rattle.cluster_runs.specs.Chronicle.{submission_of}
+use Rattle.cluster_runs.specs.Trace.{Scene, WasMade}
+use Rattle.cluster_runs.proofs.Lists.{get_set}
+use Rattle.read_consistency.specs.ReadRight.{IsRight, IsRightEntry}
+use Rattle.read_consistency.proofs.Facts.{WasBegun, Reaches, HasAll, IsQueryOf, IsOf, ReachedIn, Sees, Answers, ReplyOk, BodyIs, BodyOk, WriteOk, ReadIs, ReadOk, NodeOk, AckedOk, Explains}
+use Rattle.read_consistency.proofs.Grows.{Grows, begun_on, has_all_on, of_on, stands_in, write_on, read_on, node_on, submission_in}
+use Rattle.read_consistency.proofs.Reach.{grown, taken, source, slice_reached, merge_first, merge_second, merge_answers}
+use Rattle.read_consistency.proofs.Answer.{right_answer}
+use Rattle.read_consistency.proofs.Step.{deed_of, quietly, telling, quietly_grows, telling_grows, explains_quietly, explains_telling}
+use Rattle.read_consistency.proofs.Cases.{next, some_one, request_exact, same_node, none_sent}
+
+-- what comes to a node is known
+pub record Known (w : Scene) (m : Incoming) : Type 0 where
+  pub begun : WasBegun w.past m.request
+  pub is : BodyIs w m.from m.request m.body
+
+pub known : (c : Setting) (w : Scene) (k : ℕ) (m : Incoming) → Explains c w → WasMade w.past k m → Known w m
+known c w k m e made =
+    let ok = e.bodies made.deed made.there _ made.made in
+    record { begun = ok.begun; is = subst (λ (j : ℕ). BodyIs w j m.request m.body) made.node ok.is }
+
+-- a move by which a node keeps all and tells nothing
+same_case : (c : Setting) (w : Scene) (k : ℕ) (a : Act) (s r : NodeState) → Explains c w → slice_get w.nodes k ≡ Some s → r.content ≡ s.content → r.writes ≡ s.writes → r.reads ≡ s.reads → Explains c (next w k a s nothing r)
+same_case c w k a s r e at content writes reads =
+    let more : (p : Partition) (x : Held) → Reaches s.content p x → Reaches r.content p x = λ p x h. subst (λ cs. Reaches cs p x) (sym content) h in
+    let w' = quietly w k a s r [] in
+    let g = quietly_grows w k a s r [] at more in
+    explains_quietly c w k a s r [] e at more (same_node w' s r content writes reads (node_on c w w' g e s (e.nodes k s at))) (none_sent w' k)
+
+-- ---- a write comes
+
+pub write_heard : (c : Setting) (w : Scene) (k from : ℕ) (id : ReqId) (m : Mutation) (s s' : NodeState) (o : Effects) → Explains c w → slice_get w.nodes k ≡ Some s → (a : Act) → WasBegun w.past id → submission_of w.chronicle id ≡ Some m
+    → HearsBody c (record { from = from; request = id }) (Write m) s o s' → Explains c (next w k a s o s')
+write_heard c w k from id m s s' o e at a begun submission (t, is, same) =
+    let r : NodeState = record s { content = s'.content } in
+    let sends = send_to id WriteAck (from ∷ []) in
+    let more : (p : Partition) (x : Held) → Reaches s.content p x → Reaches r.content p x = grown s.content s'.content m.partition m.changes t in
+    let w' = quietly w k a s r sends in
+    let g = quietly_grows w k a s r sends at more in
+    let old = node_on c w w' g e s (e.nodes k s at) in
+    let has : HasAll w' k id =
+    λ st there n sub y in_n.
+    let one : n ≡ m = some_one (sym sub ∙ submission) in
+    let mine : st ≡ r = elim (get_set w.nodes k r k st there) [ inl here ↦ here.1 | inr away ↦ absurd (away.0 refl) ] in
+    subst (λ (v : NodeState). Reaches v.content n.partition y) (sym mine)
+    (subst (λ (v : Mutation). Reaches r.content v.partition y) (sym one) (taken s.content s'.content m.partition m.changes t y (subst (λ (v : Mutation). Contains v.changes y) one in_n)))
+    in
+    subst (λ (x : Effects). Explains c (next w k a s x s')) (sym is)
+    (subst (λ (x : NodeState). Explains c (next w k a s (replies (record { from = from; request = id }) WriteAck) x)) (sym same)
+    (explains_quietly c w k a s r sends e at more
+    (record {
+      of = λ p x held. elim (source s.content s'.content m.partition m.changes t p x held) [
+        | inl before ↦ of_on w w' g p _ _ x (λ y h. more p y h) ((e.nodes k s at).of p x before)
+        | inr (here, there) ↦ record {
+          request = id;
+          mutation = m;
+          submitted = submission_in w.chronicle id m submission;
+          partition = sym here;
+          there = there;
+          beside = λ y c' b. subst (λ (q : Partition). Reaches r.content q y) (sym here) (taken s.content s'.content m.partition m.changes t y c');
+        }
+      ];
+      writes = old.writes;
+      reads = old.reads;
+    })
+    (λ x h. let made = contains_from_map (outbound id WriteAck) (from ∷ []) x h in subst (λ (y : Outbound). BodyOk w' k y) made.2 (record { begun = begun_on w w' g id begun; is = has }))))
+
+-- ---- open requests that have moved
+
+equal_at : (o : Ordering) → is_eq o ≡ true → o ≡ Equal
+equal_at Less p = cc
+equal_at Equal p = refl
+equal_at Greater p = cc
+
+at_request : (a b : ReqId) → is_at (request_cmp a) b ≡ true → a ≡ b
+at_request a b t = request_exact a b (equal_at (request_cmp a b) t)
+
+pub open_in : {A : Type 0} (xs : List (ReqId × A)) (id : ReqId) (a : A) → open_at xs id ≡ Some a → Contains xs (id, a)
+open_in {A} xs id a h = Contains-from_lookup {eq = λ x y. is_at (request_cmp x) y} at_request id a xs h
+
+in_set_cases : {A : Type 0} (b : Bool) (id : ReqId) (e : ReqId × A) (xs rest : List (ReqId × A)) (a : A) (x : ReqId × A) → is_at (request_cmp id) e.0 ≡ b → (Contains rest x → Contains xs x ⊎ ((x.0 ≡ id) × (x.1 ≡ a)))
+    → Contains (cond b ((e.0, a) ∷ xs) (e ∷ rest)) x → Contains (e ∷ xs) x ⊎ ((x.0 ≡ id) × (x.1 ≡ a))
+in_set_cases {A} true id e xs rest a x test more h = elim (contains_cases (e.0, a) xs x h) [
+  | inl here ↦ inr (ap (λ (y : ReqId × A). y.0) (sym here) ∙ sym (at_request id e.0 test), ap (λ (y : ReqId × A). y.1) (sym here))
+  | inr there ↦ inl (contains_there e xs x there)
+]
+in_set_cases {A} false id e xs rest a x test more h = elim (contains_cases e rest x h) [
+  | inl here ↦ inl (subst (λ (y : ReqId × A). Contains (e ∷ xs) y) here (contains_here e xs))
+  | inr there ↦ elim (more there) [ inl old ↦ inl (contains_there e xs x old) | inr new ↦ inr new ]
+]
+
+in_set : {A : Type 0} (id : ReqId) (xs : List (ReqId × A)) (a : A) (x : ReqId × A) → Contains (set_value (is_at (request_cmp id)) xs a) x → Contains xs x ⊎ ((x.0 ≡ id) × (x.1 ≡ a))
+in_set {A} id [] a x h = inl h
+in_set {A} id (e ∷ xs) a x h = in_set_cases (is_at (request_cmp id) e.0) id e xs (set_value (is_at (request_cmp id)) xs a) a x refl (in_set id xs a x) h
+
+in_left_cases : {A : Type 0} (b : Bool) (e : ReqId × A) (xs rest : List (ReqId × A)) (x : ReqId × A) → (Contains rest x → Contains xs x) → Contains (cond b xs (e ∷ rest)) x → Contains (e ∷ xs) x
+in_left_cases {A} true e xs rest x more h = contains_there e xs x h
+in_left_cases {A} false e xs rest x more h = elim (contains_cases e rest x h) [
+  | inl here ↦ subst (λ (y : ReqId × A). Contains (e ∷ xs) y) here (contains_here e xs)
+  | inr there ↦ contains_there e xs x (more there)
+]
+
+in_left : {A : Type 0} (test : ReqId → Bool) (xs : List (ReqId × A)) (x : ReqId × A) → Contains (remove_entry test xs) x → Contains xs x
+in_left {A} test [] x h = h
+in_left {A} test (e ∷ xs) x h = in_left_cases (test e.0) e xs (remove_entry test xs) x (in_left test xs x) h
+
+-- ---- an acknowledgement comes
+
+in_heard : (b : Bool) (heard : List ℕ) (from j : ℕ) → Contains (if b then heard ++ from ∷ [] else heard) j → Contains heard j ⊎ (from ≡ j)
+in_heard true heard from j h = (contains_push heard from j).0 h
+in_heard false heard from j h = inl h
+
+pub ack_ok : (c : Setting) (w : Scene) (from : ℕ) (id : ReqId) (o o' : OpenWrite) → WriteOk w id o → HasAll w from id → o' ≡ record o { heard = with_heard (replicas_of c o.partition) o.heard from } → WriteOk w id o'
+ack_ok c w from id o o' ok has is =
+    subst (λ (x : OpenWrite). WriteOk w id x) (sym is) (record {
+      begun = ok.begun;
+      partition = ok.partition;
+      heard = λ j h. elim (in_heard (not (is_in o.heard from) && is_in (replicas_of c o.partition) from) o.heard from j h) [
+        | inl old ↦ ok.heard j old
+        | inr here ↦ subst (λ (i : ℕ). HasAll w i id) here has
+      ];
+    })
+
+ack_waits : (c : Setting) (w : Scene) (k : ℕ) (a : Act) (id : ReqId) (s : NodeState) (o' : OpenWrite) → Explains c w → slice_get w.nodes k ≡ Some s → WriteOk w id o'
+    → Explains c (next w k a s nothing (record s { writes = after_move false id o' s.writes }))
+ack_waits c w k a id s o' e at ok =
+    let r : NodeState = record s { writes = after_move false id o' s.writes } in
+    let w' = quietly w k a s r [] in
+    let g = quietly_grows w k a s r [] at (λ p x h. h) in
+    let old = node_on c w w' g e s (e.nodes k s at) in
+    explains_quietly c w k a s r [] e at (λ p x h. h)
+    (record {
+      of = old.of;
+      writes = λ i o h. elim (in_set id s.writes o' (i, o) h) [
+        | inl there ↦ old.writes i o there
+        | inr (here, same) ↦ subst (λ (x : ReqId). WriteOk w' x o) (sym here) (subst (λ (x : OpenWrite). WriteOk w' id x) (sym same) (write_on w w' g id o' ok))
+      ];
+      reads = old.reads;
+    })
+    (none_sent w' k)
+
+ack_tells : (c : Setting) (w : Scene) (k : ℕ) (a : Act) (id : ReqId) (s : NodeState) (o' : OpenWrite) → Explains c w → slice_get w.nodes k ≡ Some s → WriteOk w id o'
+    → needed c o'.level o'.partition ≤ heard_of (replicas_of c o'.partition) o'.heard
+    → Explains c (next w k a s (effects_of (tells (Acked id o'.level o'.heard))) (record s { writes = after_move true id o' s.writes }))
+ack_tells c w k a id s o' e at ok enough =
+    let r : NodeState = record s { writes = after_move true id o' s.writes } in
+    let x : Entry = Acked id o'.level o'.heard in
+    let w' = telling w k a s r [] x in
+    let g = telling_grows w k a s r [] x at (λ p y h. h) tt in
+    let old = node_on c w w' g e s (e.nodes k s at) in
+    let ok' = write_on w w' g id o' ok in
+    explains_telling c w k a s r [] x e at (λ p y h. h) tt
+    (record { of = old.of; writes = λ i o h. old.writes i o (in_left (is_at (request_cmp id)) s.writes (i, o) h); reads = old.reads })
+    (none_sent w' k)
+    (record {
+      begun = ok'.begun;
+      count = λ m sub. subst (λ (p : Partition). needed c o'.level p ≤ heard_of (replicas_of c p) o'.heard) (sym (ok'.partition m sub)) enough;
+      has = ok'.heard;
+    })
+    tt
+
+ack_counted : (c : Setting) (w : Scene) (k : ℕ) (a : Act) (id : ReqId) (s : NodeState) (o' : OpenWrite) (turn : Move) (b : Bool) → Explains c w → slice_get w.nodes k ≡ Some s → WriteOk w id o'
+    → nat_lt (heard_of (replicas_of c o'.partition) o'.heard) (needed c o'.level o'.partition) ≡ b → MatchBool b (turn ≡ quiet) (turn ≡ tells (Acked id o'.level o'.heard))
+    → Explains c (next w k a s (effects_of turn) (record s { writes = after_move turn.ended id o' s.writes }))
+ack_counted c w k a id s o' turn true e at ok test is =
+    subst (λ (t : Move). Explains c (next w k a s (effects_of t) (record s { writes = after_move t.ended id o' s.writes }))) (sym is) (ack_waits c w k a id s o' e at ok)
+ack_counted c w k a id s o' turn false e at ok test is =
+    subst (λ (t : Move). Explains c (next w k a s (effects_of t) (record s { writes = after_move t.ended id o' s.writes }))) (sym is) (ack_tells c w k a id s o' e at ok (ltb-false _ _ test))
+
+ack_taken : (c : Setting) (w : Scene) (k from : ℕ) (a : Act) (id : ReqId) (s : NodeState) (turn : Move) (xs' : List (ReqId × OpenWrite)) (o : Option OpenWrite) → Explains c w → slice_get w.nodes k ≡ Some s → HasAll w from id
+    → open_at s.writes id ≡ o → Takes (HearsAck c id from) id s.writes o turn xs' → Explains c (next w k a s (effects_of turn) (record s { writes = xs' }))
+ack_taken c w k from a id s turn xs' None e at has found (is, same) =
+    subst (λ (t : Move). Explains c (next w k a s (effects_of t) (record s { writes = xs' }))) (sym is) (same_case c w k a s (record s { writes = xs' }) e at refl same refl)
+ack_taken c w k from a id s turn xs' (Some o) e at has found (o', (is, counts), after) =
+    let ok = ack_ok c w from id o o' ((e.nodes k s at).writes id o (open_in s.writes id o found)) has is in
+    subst (λ (xs : List (ReqId × OpenWrite)). Explains c (next w k a s (effects_of turn) (record s { writes = xs }))) (sym after)
+    (ack_counted c w k a id s o' turn (nat_lt (heard_of (replicas_of c o'.partition) o'.heard) (needed c o'.level o'.partition)) e at ok refl counts)
+
+pub ack_heard : (c : Setting) (w : Scene) (k from : ℕ) (id : ReqId) (s s' : NodeState) (o : Effects) → Explains c w → slice_get w.nodes k ≡ Some s → (a : Act) → HasAll w from id
+    → HearsBody c (record { from = from; request = id }) WriteAck s o s' → Explains c (next w k a s o s')
+ack_heard c w k from id s s' o e at a has (turn, moves, is, same) =
+    subst (λ (x : Effects). Explains c (next w k a s x s')) (sym is)
+    (subst (λ (x : NodeState). Explains c (next w k a s (effects_of turn) x)) (sym same) (ack_taken c w k from a id s turn s'.writes (open_at s.writes id) e at has refl moves))
+
+-- ---- a query comes
+
+pub read_heard : (c : Setting) (w : Scene) (k from : ℕ) (id : ReqId) (q : Query) (s s' : NodeState) (o : Effects) → Explains c w → slice_get w.nodes k ≡ Some s → (a : Act) → WasBegun w.past id → IsQueryOf w.chronicle id q
+    → HearsBody c (record { from = from; request = id }) (Read q) s o s' → Explains c (next w k a s o s')
+read_heard c w k from id q s s' o e at a begun query (part, answer, is, same) =
+    let sends = send_to id (ReadReply part) (from ∷ []) in
+    let w' = quietly w k a s s sends in
+    let g = quietly_grows w k a s s sends at (λ p x h. h) in
+    let node = e.nodes k s at in
+    let answers : Answers w'.chronicle q part = record {
+      of = λ x c'. of_on w w' g q.partition _ _ x (λ y h inside. slice_reached s.content q part answer y inside h) (node.of q.partition x ((answer x).0 c').0);
+      inside = λ x c'. ((answer x).0 c').1;
+    } in
+    let sees : Sees w'.chronicle id k q part =
+    λ i l heard before there m sub in_part y in_m inside.
+    let acked = e.entries (Acked i l heard) (stands_in w.chronicle id (Acked i l heard) before) in
+    slice_reached s.content q part answer y inside (subst (λ (p : Partition). Reaches s.content p y) in_part (acked.has k there s at m sub y in_m))
+    in
+    let reply : ReplyOk w' k id part =
+    λ p n there. (subst (λ (v : Query). Answers w'.chronicle v part) (sym (query p n there)) answers, subst (λ (v : Query). Sees w'.chronicle id k v part) (sym (query p n there)) sees) in
+    subst (λ (x : Effects). Explains c (next w k a s x s')) (sym is)
+    (subst (λ (x : NodeState). Explains c (next w k a s (replies (record { from = from; request = id }) (ReadReply part)) x)) (sym same)
+    (explains_quietly c w k a s s sends e at (λ p x h. h) (node_on c w w' g e s node)
+    (λ x h. let made = contains_from_map (outbound id (ReadReply part)) (from ∷ []) x h in subst (λ (y : Outbound). BodyOk w' k y) made.2 (record { begun = begun_on w w' g id begun; is = reply }))))
+
+-- ---- a reply comes
+
+pub merged_ok : (c : Setting) (w : Scene) (from : ℕ) (id : ReqId) (content : List Held) (r next : OpenRead) → ReadOk w id r → ReplyOk w from id content → next ≡ record r { heard = r.heard ++ from ∷ []; merged = next.merged }
+    → IsMergeOf next.merged r.merged content → ReadOk w id next
+merged_ok c w from id content r next ok reply is merge =
+    let query : next.query ≡ r.query = ap (λ (x : OpenRead). x.query) is in
+    let level : next.level ≡ r.level = ap (λ (x : OpenRead). x.level) is in
+    let heard : next.heard ≡ r.heard ++ from ∷ [] = ap (λ (x : OpenRead). x.heard) is in
+    record {
+      begun = ok.begun;
+      is = λ q l there.
+          let old = ok.is q l there in
+          let new = reply q l there in
+          record {
+            query = old.query ∙ sym query;
+            level = old.level ∙ sym level;
+            answers = merge_answers w.chronicle q next.merged r.merged content merge old.answers new.0;
+            sees = λ j h i n acks before in_acks m sub part y in_m inside.
+                elim ((contains_push r.heard from j).0 (subst (λ (js : List ℕ). Contains js j) heard h)) [
+                  | inl earlier ↦ merge_first next.merged r.merged content merge y (old.sees j earlier i n acks before in_acks m sub part y in_m inside)
+                  | inr now ↦ merge_second next.merged r.merged content merge y (subst (λ (x : ℕ). Sees w.chronicle id x q content) now new.1 i n acks before in_acks m sub part y in_m inside)
+                ];
+          };
+    }
+
+reply_waits : (c : Setting) (w : Scene) (k : ℕ) (a : Act) (id : ReqId) (s : NodeState) (r' : OpenRead) → Explains c w → slice_get w.nodes k ≡ Some s → ReadOk w id r'
+    → Explains c (next w k a s nothing (record s { reads = after_move false id r' s.reads }))
+reply_waits c w k a id s r' e at ok =
+    let r : NodeState = record s { reads = after_move false id r' s.reads } in
+    let w' = quietly w k a s r [] in
+    let g = quietly_grows w k a s r [] at (λ p x h. h) in
+    let old = node_on c w w' g e s (e.nodes k s at) in
+    explains_quietly c w k a s r [] e at (λ p x h. h)
+    (record {
+      of = old.of;
+      writes = old.writes;
+      reads = λ i o h. elim (in_set id s.reads r' (i, o) h) [
+        | inl there ↦ old.reads i o there
+        | inr (here, same) ↦ subst (λ (x : ReqId). ReadOk w' x o) (sym here) (subst (λ (x : OpenRead). ReadOk w' id x) (sym same) (read_on c w w' g e id r' ok))
+      ];
+    })
+    (none_sent w' k)
+
+reply_answers : (c : Setting) (w : Scene) (k : ℕ) (a : Act) (id : ReqId) (s : NodeState) (n r' : OpenRead) (rows : List ShownRow) (more : Bool) → Explains c w → slice_get w.nodes k ≡ Some s → ReadOk w id n
+    → needed c n.level n.query.partition ≤ heard_of (replicas_of c n.query.partition) n.heard → IsShown (Contains n.merged) n.query rows more
+    → Explains c (next w k a s (effects_of (tells (Rows id rows more (record { heard = n.heard; merged = n.merged })))) (record s { reads = after_move true id r' s.reads }))
+reply_answers c w k a id s n r' rows more e at ok enough shown =
+    let r : NodeState = record s { reads = after_move true id r' s.reads } in
+    let x : Entry = Rows id rows more (record { heard = n.heard; merged = n.merged }) in
+    let w' = telling w k a s r [] x in
+    let g = telling_grows w k a s r [] x at (λ p y h. h) tt in
+    let old = node_on c w w' g e s (e.nodes k s at) in
+    explains_telling c w k a s r [] x e at (λ p y h. h) tt
+    (record { of = old.of; writes = old.writes; reads = λ i o h. old.reads i o (in_left (is_at (request_cmp id)) s.reads (i, o) h) })
+    (none_sent w' k) tt
+    (λ q l there.
+    let is = ok.is q l there in
+    right_answer c w id q l n.heard n.merged rows more e is.answers is.sees
+    (subst (λ (v : Level). needed c v q.partition ≤ heard_of (replicas_of c q.partition) n.heard) (sym is.level)
+    (subst (λ (v : Query). needed c n.level v.partition ≤ heard_of (replicas_of c v.partition) n.heard) (sym is.query) enough))
+    (subst (λ (v : Query). IsShown (Contains n.merged) v rows more) (sym is.query) shown))
+
+reply_counted : (c : Setting) (w : Scene) (k : ℕ) (a : Act) (id : ReqId) (s : NodeState) (n r' : OpenRead) (turn : Move) (b : Bool) → Explains c w → slice_get w.nodes k ≡ Some s → ReadOk w id n
+    → nat_lt (heard_of (replicas_of c n.query.partition) n.heard) (needed c n.level n.query.partition) ≡ b → MatchBool b ((turn ≡ quiet) × (r' ≡ n)) (TellsRows id n turn)
+    → Explains c (next w k a s (effects_of turn) (record s { reads = after_move turn.ended id r' s.reads }))
+reply_counted c w k a id s n r' turn true e at ok test (is, same) =
+    subst (λ (t : Move). Explains c (next w k a s (effects_of t) (record s { reads = after_move t.ended id r' s.reads }))) (sym is)
+    (reply_waits c w k a id s r' e at (subst (λ (x : OpenRead). ReadOk w id x) (sym same) ok))
+reply_counted c w k a id s n r' turn false e at ok test (rows, more, shown, is) =
+    subst (λ (t : Move). Explains c (next w k a s (effects_of t) (record s { reads = after_move t.ended id r' s.reads }))) (sym is) (reply_answers c w k a id s n r' rows more e at ok (ltb-false _ _ test) shown)
+
+reply_merged : (c : Setting) (w : Scene) (k from : ℕ) (a : Act) (id : ReqId) (content : List Held) (s : NodeState) (r r' : OpenRead) (turn : Move) (b : Bool) → Explains c w → slice_get w.nodes k ≡ Some s → ReadOk w id r → ReplyOk w from id content
+    → MatchBool b ((turn ≡ quiet) × (r' ≡ r)) (MergesReply c id from content r turn r') → Explains c (next w k a s (effects_of turn) (record s { reads = after_move turn.ended id r' s.reads }))
+reply_merged c w k from a id content s r r' turn true e at ok reply (is, same) =
+    subst (λ (t : Move). Explains c (next w k a s (effects_of t) (record s { reads = after_move t.ended id r' s.reads }))) (sym is)
+    (reply_waits c w k a id s r' e at (subst (λ (x : OpenRead). ReadOk w id x) (sym same) ok))
+reply_merged c w k from a id content s r r' turn false e at ok reply (n, is, merge, counts) =
+    reply_counted c w k a id s n r' turn (nat_lt (heard_of (replicas_of c n.query.partition) n.heard) (needed c n.level n.query.partition)) e at (merged_ok c w from id content r n ok reply is merge) refl counts
+
+reply_taken : (c : Setting) (w : Scene) (k from : ℕ) (a : Act) (id : ReqId) (content : List Held) (s : NodeState) (turn : Move) (xs' : List (ReqId × OpenRead)) (o : Option OpenRead) → Explains c w → slice_get w.nodes k ≡ Some s → ReplyOk w from id content
+    → open_at s.reads id ≡ o → Takes (HearsReply c id from content) id s.reads o turn xs' → Explains c (next w k a s (effects_of turn) (record s { reads = xs' }))
+reply_taken c w k from a id content s turn xs' None e at reply found (is, same) =
+    subst (λ (t : Move). Explains c (next w k a s (effects_of t) (record s { reads = xs' }))) (sym is) (same_case c w k a s (record s { reads = xs' }) e at refl refl same)
+reply_taken c w k from a id content s turn xs' (Some r) e at reply found (r', step, after) =
+    subst (λ (xs : List (ReqId × OpenRead)). Explains c (next w k a s (effects_of turn) (record s { reads = xs }))) (sym after)
+    (reply_merged c w k from a id content s r r' turn (is_stray c from r) e at ((e.nodes k s at).reads id r (open_in s.reads id r found)) reply step)
+
+pub reply_heard : (c : Setting) (w : Scene) (k from : ℕ) (id : ReqId) (content : List Held) (s s' : NodeState) (o : Effects) → Explains c w → slice_get w.nodes k ≡ Some s → (a : Act) → ReplyOk w from id content
+    → HearsBody c (record { from = from; request = id }) (ReadReply content) s o s' → Explains c (next w k a s o s')
+reply_heard c w k from id content s s' o e at a reply (turn, moves, is, same) =
+    subst (λ (x : Effects). Explains c (next w k a s x s')) (sym is)
+    (subst (λ (x : NodeState). Explains c (next w k a s (effects_of turn) x)) (sym same) (reply_taken c w k from a id content s turn s'.reads (open_at s.reads id) e at reply refl moves))

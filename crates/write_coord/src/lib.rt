@@ -1,0 +1,145 @@
+//! A plain write at its coordinator, which sends it to every replica and counts the acknowledgements of distinct ones.
+//! After Cassandra's documentation, "Dynamo: Tunable Consistency".
+#![tactic(auto)]
+
+ghost use Rattle.std.specs.Prelude.{◌≡◌, ◌<◌, ◌^◌, IfOk, OnErr};
+ghost use Rattle.peer_messages.specs.Settings.{replicas_of};
+ghost use Rattle.changes.specs.Drafts.{mutation_of};
+ghost use Rattle.peer_messages.specs.declared.message.Body.TheVariants.{Write};
+ghost use Rattle.node_steps.specs.Effects.{outbound, send_to};
+ghost use Rattle.node_steps.specs.Writes.{start_write, started_write, CountsAck, HearsAck};
+
+use changes::{DraftMutation, Partition};
+use cs_base::{Items, Level, NodeId, ReqId};
+use peer_messages::{
+    Body, Entry, Move, NodeIds, Outbound, Sends, Setting, copy_nodes, heard_of, with_heard,
+};
+use std::alloc::{AllocError, Global};
+use std::marker::Model;
+
+#[cfg(test)]
+mod tests;
+
+/// A write that its coordinator has not answered: its level, its partition, and the replicas that acknowledged it.
+#[derive(Drop)]
+pub struct WriteCoord {
+    level: Level,
+    partition: Partition,
+    heard: NodeIds,
+}
+
+impl Model for WriteCoord {
+    ghost use Rattle.node_steps.specs.State.{OpenWrite};
+
+    ghost Value = { OpenWrite };
+
+    ghost view = { λ a. record { level = a.level; partition = a.partition; heard = a.heard } };
+}
+
+fn write_to(
+    alloc: Global,
+    request: ReqId,
+    draft: &DraftMutation,
+    node: NodeId,
+) -> Result<Outbound, AllocError>
+    requires { request.time < 2 ^ 63 }
+    ensures { IfOk result (λ sent. sent ≡ outbound request (Write (mutation_of request draft.now)) node) }
+{
+    Ok(Outbound {
+        upto: node,
+        born: request.time,
+        request,
+        body: Body::Write(draft.mutation(alloc, request)?),
+    })
+}
+
+fn write_to_all(
+    alloc: Global,
+    request: ReqId,
+    draft: &DraftMutation,
+    nodes: &[NodeId],
+) -> Result<Sends, AllocError>
+    requires { request.time < 2 ^ 63 }
+    ensures { IfOk result (λ sends. sends ≡ send_to request (Write (mutation_of request draft.now)) nodes.now) }
+{
+    let mut sends = Items::new(alloc);
+    for node in nodes {
+        sends.push(write_to(alloc, request, draft, *node)?)?;
+    }
+    Ok(sends)
+}
+
+/// What begins a write: it is submitted, and goes to each replica.
+pub fn opening(
+    alloc: Global,
+    setting: &Setting,
+    request: ReqId,
+    draft: &DraftMutation,
+) -> Result<Move, AllocError>
+    requires { request.time < 2 ^ 63 }
+    ensures { IfOk result (λ turn. turn ≡ start_write setting.now request draft.now) }
+{
+    let replicas = setting.replicas(&draft.partition);
+    let mut entries = Items::new(alloc);
+    entries.push(Entry::Submitted(request, draft.mutation(alloc, request)?))?;
+    Ok(Move {
+        sends: write_to_all(alloc, request, draft, replicas.as_slice())?,
+        entries,
+        ended: false,
+    })
+}
+
+impl WriteCoord {
+    /// The write as it begins, with its [`opening`]: no replica has acknowledged it.
+    pub fn start(
+        alloc: Global,
+        level: Level,
+        draft: &DraftMutation,
+    ) -> Result<WriteCoord, AllocError>
+        ensures { IfOk result (λ write. write ≡ started_write level draft.now) }
+    {
+        Ok(WriteCoord {
+            level,
+            partition: draft.partition.copy(alloc)?,
+            heard: Items::new(alloc),
+        })
+    }
+
+    /// With so many heard of, the write waits, or is acknowledged.
+    fn count(
+        &self,
+        alloc: Global,
+        setting: &Setting,
+        request: ReqId,
+        heard: &NodeIds,
+    ) -> Result<Move, AllocError>
+        ensures { IfOk result (λ turn. CountsAck setting.now request (record self.now { heard = heard.now }) turn) }
+    {
+        let replicas = setting.replicas(&self.partition);
+        let needed = setting.needed(self.level, &self.partition);
+        if heard_of(replicas.as_slice(), heard.as_slice()) < usize::from(needed) {
+            return Ok(Move::quiet(alloc));
+        }
+        let heard = copy_nodes(alloc, heard.as_slice())?;
+        Move::tells(alloc, Entry::Acked(request, self.level, heard))
+    }
+
+    /// Takes a node's acknowledgement of the request. That of a node that is no replica, and a repeated one, count for
+    /// nothing.
+    pub fn on_ack(
+        &mut self,
+        alloc: Global,
+        setting: &Setting,
+        request: ReqId,
+        from: NodeId,
+    ) -> Result<Move, AllocError>
+        ensures ok { IfOk result (λ turn. HearsAck setting.now request from self.old turn self.new) }
+        ensures err { OnErr result (self.new ≡ self.old) }
+    {
+        let replicas = setting.replicas(&self.partition);
+        let heard = with_heard(alloc, replicas.as_slice(), self.heard.as_slice(), from)?;
+        let turn = self.count(alloc, setting, request, &heard)?;
+        self.heard = heard;
+        Ok(turn)
+    }
+}
