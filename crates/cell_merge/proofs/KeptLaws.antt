@@ -6,7 +6,7 @@ use Rattle.std.specs.List.Sorted.{IsStrictlySortedBy}
 use Rattle.std.proofs.lemmas.List.Elements.{Contains-append_cases, Contains-append_left, Contains-append_right}
 use Rattle.changes.specs.declared.Held.{Held}
 use Rattle.changes.specs.Order.{row_of}
-use Rattle.changes.specs.Contents.{Either, IsContent}
+use Rattle.changes.specs.Contents.{Either, IsContent, AreApart}
 use Rattle.change_laws.proofs.Members.{contains_nil, contains_here, contains_there, contains_cases, contains_map}
 use Rattle.change_laws.proofs.OrderLaws.{Outranks_trans}
 use Rattle.cell_merge.specs.declared.sweeps.Sweep.{Sweep}
@@ -444,3 +444,6 @@ within_told rows others D E d e a b r k j ed ee ea eb iff =
     subst (λ (l : List Held). IsTrue r ↔ (((x : Held) → Contains D x → Contains l x) × RowsIn rows others)) ee (subst (λ (l : List Held). IsTrue r ↔ (((x : Held) → Contains l x → Contains e x) × RowsIn rows others)) ed iff) in
     subst (λ (l : List Held). IsTrue r ↔ ((x : Held) → Contains a x → Contains l x)) eb
     (subst (λ (l : List Held). IsTrue r ↔ ((x : Held) → Contains l x → Contains (E ++ listed others.entries) x)) ea (λ t. law.0 (one.0 t), λ h. one.1 (law.1 h)))
+
+pub list_apart : (rows : RowMap) (D : List Held) → IsKept rows D → AreApart (D ++ listed rows.entries)
+list_apart rows D k x y hx hy over = k.apart x y ((list_holds rows D k.sorted x).0 hx) ((list_holds rows D k.sorted y).0 hy) over

@@ -5,7 +5,7 @@ ghost use Rattle.std.specs.BTreeMap.{keys};
 ghost use Rattle.std.specs.List.Sorted.{IsStrictlySortedBy};
 ghost use Rattle.changes.specs.declared.Held.{Held as held_value};
 ghost use Rattle.changes.specs.Order.{row_of};
-ghost use Rattle.changes.specs.Contents.{Either, IsContent, IsMergeOf, AreSame};
+ghost use Rattle.changes.specs.Contents.{Either, IsContent, IsMergeOf, AreApart, AreSame};
 ghost use Rattle.changes.specs.Queries.{IsSlice};
 ghost use Rattle.cell_merge.specs.Rows.{bytes_cmp, held_at, listed, shown_of, HoldsSame, AreEmptyOnly, AddsNoRow, FitRows, HasRoom};
 ghost use Rattle.cell_merge.specs.Filed.{Holds, HoldsContent, IsFiled};
@@ -234,7 +234,8 @@ impl Content {
         from: &Bound,
         upto: &Bound,
     ) -> Result<Range<'a, Bytes, Vec<Held>>, AllocError>
-        ensures { IfOk result (λ walk. AreRowsBetween from.now upto.now self.now (shown_of walk)) }
+        ensures rows { IfOk result (λ walk. AreRowsBetween from.now upto.now self.now (shown_of walk)) }
+        ensures apart { IfOk result (λ walk. AreApart self.now) }
     {
         let walk = rows_between(&self.rows, alloc, from, upto)?;
         Ok(walk)

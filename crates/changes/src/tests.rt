@@ -1,5 +1,7 @@
 //! Copies, and the changes that a request makes of drafts.
 
+ghost use Rattle.std.specs.Prelude.{◌≡◌};
+
 use crate::{Bound, Draft, DraftMutation, Held, Mutation, Partition, Place, Query};
 use cs_base::{Bytes, Items, Micros, NodeId, ReqId};
 use std::alloc::{AllocError, Global};
@@ -24,7 +26,9 @@ fn bound(alloc: Global, at: &str, after: bool) -> Result<Bound, AllocError> {
     })
 }
 
-fn request() -> ReqId {
+fn request() -> ReqId
+    ensures { result.time ≡ 9 }
+{
     ReqId {
         node: NodeId::FIRST,
         time: Micros::new(9),
@@ -41,32 +45,47 @@ fn held(place: Place, value: Option<Bytes>) -> Held {
     }
 }
 
+fn is_copied(alloc: Global, change: &Held) -> Result<bool, AllocError> {
+    Ok(change.copy(alloc)? == *change)
+}
+
+fn is_place_copied(alloc: Global, place: Place) -> Result<bool, AllocError> {
+    is_copied(alloc, &held(place, Some(bytes(alloc, "v")?)))
+}
+
 #[test]
-fn copies_are_equal(rt: HostRuntime) -> Result<(), Fail> {
+fn partitions_and_queries_are_copied(rt: HostRuntime) -> Result<(), Fail> {
     let alloc = rt.alloc();
     let whole = partition(alloc)?;
     assert!(rt; whole.copy(alloc)? == whole);
-    let places = [
-        Place::Cell(bytes(alloc, "r")?, 4),
-        Place::Marker(bytes(alloc, "r")?),
-        Place::RowGone(bytes(alloc, "s")?),
-        Place::RangeGone(bound(alloc, "a", false)?, bound(alloc, "b", true)?),
-        Place::PartGone,
-    ];
-    for place in places {
-        let change = held(place, Some(bytes(alloc, "v")?));
-        assert!(rt; change.copy(alloc)? == change);
-    }
-    let gone = held(Place::Cell(bytes(alloc, "r")?, 4), None);
-    assert!(rt; gone.copy(alloc)? == gone);
     let query = Query {
-        partition: partition(alloc)?,
+        partition: whole,
         from: bound(alloc, "a", true)?,
         upto: bound(alloc, "c", false)?,
         reversed: true,
         limit: 6,
     };
     assert!(rt; query.copy(alloc)? == query);
+    Ok(())
+}
+
+#[test]
+fn places_in_a_row_are_copied(rt: HostRuntime) -> Result<(), Fail> {
+    let alloc = rt.alloc();
+    assert!(rt; is_place_copied(alloc, Place::Cell(bytes(alloc, "r")?, 4))?);
+    assert!(rt; is_place_copied(alloc, Place::Marker(bytes(alloc, "r")?))?);
+    assert!(rt; is_place_copied(alloc, Place::RowGone(bytes(alloc, "s")?))?);
+    assert!(rt; is_copied(alloc, &held(Place::Cell(bytes(alloc, "r")?, 4), None))?);
+    Ok(())
+}
+
+#[test]
+fn deletions_of_rows_are_copied(rt: HostRuntime) -> Result<(), Fail> {
+    let alloc = rt.alloc();
+    let from = bound(alloc, "a", false)?;
+    let upto = bound(alloc, "b", true)?;
+    assert!(rt; is_copied(alloc, &held(Place::RangeGone(from, upto), None))?);
+    assert!(rt; is_copied(alloc, &held(Place::PartGone, None))?);
     Ok(())
 }
 
@@ -86,30 +105,43 @@ fn mutations_are_copied_whole(rt: HostRuntime) -> Result<(), Fail> {
     Ok(())
 }
 
+fn draft(alloc: Global, timestamp: Option<i64>) -> Result<Draft, AllocError> {
+    Ok(Draft {
+        place: Place::Cell(bytes(alloc, "r")?, 2),
+        value: Some(bytes(alloc, "v")?),
+        timestamp,
+    })
+}
+
+fn is_made(alloc: Global, change: &Held, timestamp: i64) -> Result<bool, AllocError> {
+    let expected = Held {
+        place: Place::Cell(bytes(alloc, "r")?, 2),
+        value: Some(bytes(alloc, "v")?),
+        timestamp,
+        submitted: Micros::new(9),
+        request: request(),
+    };
+    Ok(*change == expected)
+}
+
 #[test]
 fn drafts_get_the_time_of_their_request(rt: HostRuntime) -> Result<(), Fail> {
     let alloc = rt.alloc();
     let mut changes = Items::new(alloc);
-    for timestamp in [Some(-2), None] {
-        changes.push(Draft {
-            place: Place::Cell(bytes(alloc, "r")?, 2),
-            value: Some(bytes(alloc, "v")?),
-            timestamp,
-        })?;
-    }
+    changes.push(draft(alloc, Some(-2))?)?;
+    changes.push(draft(alloc, None)?)?;
     let draft = DraftMutation {
         partition: partition(alloc)?,
         changes,
     };
     let mutation = draft.mutation(alloc, request())?;
     assert!(rt; mutation.partition == draft.partition);
-    assert_eq!(rt; mutation.changes.as_slice().len(), 2);
-    for (change, want) in mutation.changes.as_slice().iter().zip([-2, 9]) {
-        assert_eq!(rt; change.timestamp, want);
-        assert_eq!(rt; change.submitted.count(), 9);
-        assert!(rt; change.request == request());
-        assert!(rt; change.place == Place::Cell(bytes(alloc, "r")?, 2));
-        assert!(rt; change.value == Some(bytes(alloc, "v")?));
+    match mutation.changes.as_slice() {
+        [first, second] => {
+            assert!(rt; is_made(alloc, first, -2)?);
+            assert!(rt; is_made(alloc, second, 9)?);
+        }
+        _ => assert!(rt; false),
     }
     Ok(())
 }

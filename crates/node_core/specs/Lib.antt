@@ -1,0 +1,4 @@
+pub mod Stores
+pub mod Gives
+pub mod Sites
+pub mod Here

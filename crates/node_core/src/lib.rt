@@ -1,0 +1,12 @@
+//! One node: what it holds, and the requests whose coordinator it is.
+#![tactic(auto)]
+
+mod contents;
+mod kept;
+mod node;
+mod requests;
+mod taking;
+#[cfg(test)]
+mod tests;
+
+pub use node::{Node, StepError};

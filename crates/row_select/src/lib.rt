@@ -1,0 +1,9 @@
+//! The rows that a query shows of a content.
+#![tactic(auto)]
+
+mod rows;
+mod select;
+#[cfg(test)]
+mod tests;
+
+pub use select::shown;

@@ -1,0 +1,198 @@
+//! Contents of a few rows, and what queries show of them.
+
+use crate::shown;
+use cell_merge::Content;
+use changes::{Bound, Held, Partition, Place, Query, ShownRow};
+use cs_base::{Bytes, Items, Micros, NodeId, ReqId};
+use std::alloc::{AllocError, Global};
+use std::test::Fail;
+
+fn bytes(alloc: Global, text: &str) -> Result<Bytes, AllocError> {
+    Bytes::from_slice(alloc, text.as_bytes())
+}
+
+fn bound(alloc: Global, at: &str, after: bool) -> Result<Bound, AllocError> {
+    Ok(Bound {
+        at: bytes(alloc, at)?,
+        after,
+    })
+}
+
+fn held(place: Place, value: Option<Bytes>, timestamp: i64) -> Held {
+    Held {
+        place,
+        value,
+        timestamp,
+        submitted: Micros::new(1),
+        request: ReqId {
+            node: NodeId::FIRST,
+            time: Micros::new(1),
+        },
+    }
+}
+
+fn apply(
+    alloc: Global,
+    content: &mut Content,
+    place: Place,
+    value: Option<&str>,
+    timestamp: i64,
+) -> Result<(), AllocError> {
+    let value = match value {
+        Some(text) => Some(bytes(alloc, text)?),
+        None => None,
+    };
+    let mut changes = Items::new(alloc);
+    changes.push(held(place, value, timestamp))?;
+    content.apply(&changes)
+}
+
+fn cell(alloc: Global, row: &str, column: u8) -> Result<Place, AllocError> {
+    Ok(Place::Cell(bytes(alloc, row)?, column))
+}
+
+/// Row a has two cells; b had one, and a marker; c has a marker alone; d has a deleted cell alone; e is deleted, and had a
+/// cell before; f is deleted, and has a cell since; those from g to h are deleted, and have a cell before in g and one
+/// since in h; i has a deleted cell and another one.
+fn worked(alloc: Global) -> Result<Content, AllocError> {
+    let mut content = Content::new(alloc);
+    let rows = &mut content;
+    apply(alloc, rows, cell(alloc, "a", 4)?, Some("y"), 1)?;
+    apply(alloc, rows, cell(alloc, "a", 3)?, Some("x"), 1)?;
+    apply(alloc, rows, cell(alloc, "b", 3)?, Some("x"), 1)?;
+    apply(alloc, rows, cell(alloc, "b", 3)?, None, 2)?;
+    apply(alloc, rows, Place::Marker(bytes(alloc, "b")?), Some(""), 1)?;
+    apply(alloc, rows, Place::Marker(bytes(alloc, "c")?), Some(""), 1)?;
+    apply(alloc, rows, cell(alloc, "d", 3)?, None, 1)?;
+    apply(alloc, rows, cell(alloc, "e", 3)?, Some("x"), 1)?;
+    apply(alloc, rows, Place::RowGone(bytes(alloc, "e")?), None, 2)?;
+    apply(alloc, rows, Place::RowGone(bytes(alloc, "f")?), None, 2)?;
+    apply(alloc, rows, cell(alloc, "f", 3)?, Some("z"), 3)?;
+    apply(alloc, rows, cell(alloc, "g", 3)?, Some("x"), 1)?;
+    apply(alloc, rows, cell(alloc, "h", 3)?, Some(""), 9)?;
+    let gone = Place::RangeGone(bound(alloc, "g", false)?, bound(alloc, "h", true)?);
+    apply(alloc, rows, gone, None, 5)?;
+    apply(alloc, rows, cell(alloc, "i", 3)?, None, 2)?;
+    apply(alloc, rows, cell(alloc, "i", 5)?, Some("u"), 2)?;
+    Ok(content)
+}
+
+fn push_bytes(text: &mut String, bytes: &Bytes) -> Result<(), AllocError> {
+    for byte in bytes.as_slice() {
+        text.push(char::from(*byte))?;
+    }
+    Ok(())
+}
+
+/// Writes a row, as `a:3=x,4=y,`.
+fn push_row(text: &mut String, row: &ShownRow) -> Result<(), AllocError> {
+    push_bytes(text, &row.row)?;
+    text.push(':')?;
+    for cell in row.cells.as_slice() {
+        text.push(char::from(b'0' + cell.column % 10))?;
+        text.push('=')?;
+        push_bytes(text, &cell.value)?;
+        text.push(',')?;
+    }
+    text.push(' ')
+}
+
+/// The rows that are shown, and a `+` where more follow.
+fn read(alloc: Global, content: &Content, query: &Query) -> Result<String, AllocError> {
+    let (rows, more) = shown(alloc, content, query)?;
+    let mut text = String::new(alloc);
+    for row in rows.as_slice() {
+        push_row(&mut text, row)?;
+    }
+    if more {
+        text.push('+')?;
+    }
+    Ok(text)
+}
+
+fn query(
+    alloc: Global,
+    from: Bound,
+    upto: Bound,
+    reversed: bool,
+    limit: u32,
+) -> Result<Query, AllocError> {
+    Ok(Query {
+        partition: Partition {
+            table: 0,
+            token: 7,
+            key: bytes(alloc, "k")?,
+        },
+        from,
+        upto,
+        reversed,
+        limit,
+    })
+}
+
+fn read_all(
+    alloc: Global,
+    content: &Content,
+    reversed: bool,
+    limit: u32,
+) -> Result<String, AllocError> {
+    let from = bound(alloc, "", false)?;
+    let upto = bound(alloc, "", true)?;
+    read(alloc, content, &query(alloc, from, upto, reversed, limit)?)
+}
+
+#[test]
+fn rows_up_to_a_limit(rt: HostRuntime) -> Result<(), Fail> {
+    let alloc = rt.alloc();
+    let content = worked(alloc)?;
+    let cases = [
+        (false, 0, "+"),
+        (false, 1, "a:3=x,4=y, +"),
+        (false, 2, "a:3=x,4=y, b: +"),
+        (false, 5, "a:3=x,4=y, b: c: f:3=z, h:3=, +"),
+        (false, 6, "a:3=x,4=y, b: c: f:3=z, h:3=, i:5=u, "),
+        (false, 7, "a:3=x,4=y, b: c: f:3=z, h:3=, i:5=u, "),
+        (false, u32::MAX, "a:3=x,4=y, b: c: f:3=z, h:3=, i:5=u, "),
+        (true, 0, "+"),
+        (true, 1, "i:5=u, +"),
+        (true, 2, "i:5=u, h:3=, +"),
+        (true, 5, "i:5=u, h:3=, f:3=z, c: b: +"),
+        (true, 6, "i:5=u, h:3=, f:3=z, c: b: a:3=x,4=y, "),
+        (true, u32::MAX, "i:5=u, h:3=, f:3=z, c: b: a:3=x,4=y, "),
+    ];
+    for (reversed, limit, expected) in cases {
+        let text = read_all(alloc, &content, reversed, limit)?;
+        assert_eq!(rt; text.as_str(), expected);
+    }
+    Ok(())
+}
+
+#[test]
+fn rows_between_bounds(rt: HostRuntime) -> Result<(), Fail> {
+    let alloc = rt.alloc();
+    let content = worked(alloc)?;
+    let cases = [
+        ("b", false, "f", true, false, 9, "b: c: f:3=z, "),
+        ("b", true, "f", false, false, 9, "c: "),
+        ("b", false, "h", true, true, 2, "h:3=, f:3=z, +"),
+        ("d", false, "e", true, false, 0, ""),
+        ("c", false, "c", true, false, 1, "c: "),
+        ("h", true, "a", false, true, 9, ""),
+    ];
+    for (from, behind, upto, with, reversed, limit, expected) in cases {
+        let from = bound(alloc, from, behind)?;
+        let upto = bound(alloc, upto, with)?;
+        let asked = query(alloc, from, upto, reversed, limit)?;
+        assert_eq!(rt; read(alloc, &content, &asked)?.as_str(), expected);
+    }
+    Ok(())
+}
+
+#[test]
+fn an_empty_content_shows_no_row(rt: HostRuntime) -> Result<(), Fail> {
+    let alloc = rt.alloc();
+    let content = Content::new(alloc);
+    assert_eq!(rt; read_all(alloc, &content, false, 0)?.as_str(), "");
+    assert_eq!(rt; read_all(alloc, &content, true, 3)?.as_str(), "");
+    Ok(())
+}
