@@ -6,13 +6,17 @@ use cs_base::{Bytes, Items, Level, NodeId};
 use std::test::Fail;
 use token_ring::Ring;
 
+fn node(number: u8) -> Result<NodeId, Fail> {
+    Ok(NodeId::new(number).ok_or("no such node")?)
+}
+
 #[test]
 fn hears_of_distinct_replicas(rt: HostRuntime) -> Result<(), Fail> {
     let alloc = rt.alloc();
-    let nodes = [1, 2, 4].map(|number| NodeId::new(number).unwrap());
+    let nodes = [node(1)?, node(2)?, node(4)?];
     let mut heard = copy_nodes(alloc, &[])?;
     for (from, count) in [(2, 1), (2, 1), (3, 1), (4, 2), (1, 3), (1, 3)] {
-        let from = NodeId::new(from).ok_or("no such node")?;
+        let from = node(from)?;
         heard = with_heard(alloc, &nodes, heard.as_slice(), from)?;
         assert_eq!(rt; heard.as_slice().len(), count);
         assert_eq!(rt; heard_of(&nodes, heard.as_slice()), count);
