@@ -4,8 +4,8 @@ use crate::{ReadCoord, opening};
 use cell_merge::Content;
 use changes::{Bound, Held, Partition, Place, Query};
 use cs_base::{Bytes, Items, Level, Micros, NodeId, ReqId};
-use peer_messages::{Body, Entry, Setting, TableSetting};
-use std::alloc::Global;
+use peer_messages::{Body, Entry, Move, Setting, TableSetting};
+use std::alloc::{AllocError, Global};
 use std::test::Fail;
 use token_ring::Ring;
 
@@ -23,68 +23,97 @@ fn content(alloc: Global, request: ReqId, row: &str, timestamp: i64) -> Result<C
     Ok(content)
 }
 
-#[test]
-fn merges_two_replies(rt: HostRuntime) -> Result<(), Fail> {
-    let alloc = rt.alloc();
-    let mut tables = Items::new(alloc);
-    tables.push(TableSetting { factor: 3 })?;
-    let setting = Setting {
-        ring: Ring::new(&[-3, 0, 3, 6])?,
-        tables,
-    };
-    let query = Query {
-        partition: Partition {
-            table: 0,
-            token: -1,
-            key: Bytes::from_slice(alloc, b"k")?,
-        },
-        from: Bound {
-            at: Bytes::from_slice(alloc, b"")?,
-            after: false,
-        },
-        upto: Bound {
-            at: Bytes::from_slice(alloc, b"")?,
-            after: true,
-        },
-        reversed: false,
-        limit: 9,
-    };
-    let request = ReqId {
+fn request() -> ReqId {
+    ReqId {
         node: NodeId::FIRST,
         time: Micros::new(7),
+    }
+}
+
+fn three_of_four(alloc: Global) -> Result<Setting, Fail> {
+    let mut tables = Items::new(alloc);
+    tables.push(TableSetting { factor: 3 })?;
+    Ok(Setting {
+        ring: Ring::new(&[-3, 0, 3, 6])?,
+        tables,
+    })
+}
+
+fn bound(alloc: Global, after: bool) -> Result<Bound, AllocError> {
+    Ok(Bound {
+        at: Bytes::from_slice(alloc, b"")?,
+        after,
+    })
+}
+
+fn partition(alloc: Global) -> Result<Partition, AllocError> {
+    Ok(Partition {
+        table: 0,
+        token: -1,
+        key: Bytes::from_slice(alloc, b"k")?,
+    })
+}
+
+fn whole(alloc: Global) -> Result<Query, AllocError> {
+    Ok(Query {
+        partition: partition(alloc)?,
+        from: bound(alloc, false)?,
+        upto: bound(alloc, true)?,
+        reversed: false,
+        limit: 9,
+    })
+}
+
+/// What comes of a reply of the node, with a marker of this row.
+fn reply(
+    alloc: Global,
+    open: &mut ReadCoord,
+    setting: &Setting,
+    from: u8,
+    row: &str,
+) -> Result<Move, Fail> {
+    let from = NodeId::new(from).ok_or("no such node")?;
+    let content = content(alloc, request(), row, 4)?;
+    Ok(open.on_reply(alloc, setting, request(), from, content)?)
+}
+
+/// Whether the entries are two rows of these names, by two replicas, and none further.
+fn shows(turn: &Move, first: &str, second: &str) -> bool {
+    let [Entry::Rows(_, rows, false, grounds)] = turn.entries.as_slice() else {
+        return false;
     };
-    let begun = opening(alloc, &setting, request, Level::Two, &query)?;
+    let [a, b] = rows.as_slice() else {
+        return false;
+    };
+    a.row.as_slice() == first.as_bytes()
+        && b.row.as_slice() == second.as_bytes()
+        && grounds.heard.as_slice().len() == 2
+}
+
+#[test]
+fn asks_every_replica(rt: HostRuntime) -> Result<(), Fail> {
+    let alloc = rt.alloc();
+    let setting = three_of_four(alloc)?;
+    let begun = opening(alloc, &setting, request(), Level::Two, &whole(alloc)?)?;
     assert_eq!(rt; begun.sends.as_slice().len(), 3);
     for sent in begun.sends.as_slice() {
         assert!(rt; matches!(sent.body, Body::Read(_)));
     }
     assert!(rt; matches!(begun.entries.as_slice(), [Entry::Began(_, _, Level::Two)]));
-    let mut open = ReadCoord::start(alloc, Level::Two, &query)?;
-    for (from, row, ended) in [
-        (0, "z", false),
-        (1, "b", false),
-        (1, "c", false),
-        (3, "a", true),
-    ] {
-        let from = NodeId::new(from).ok_or("no such node")?;
-        let turn = open.on_reply(
-            alloc,
-            &setting,
-            request,
-            from,
-            content(alloc, request, row, 4)?,
-        )?;
-        assert_eq!(rt; turn.ended, ended);
-        let [Entry::Rows(_, rows, more, grounds)] = turn.entries.as_slice() else {
-            assert!(rt; !ended);
-            continue;
-        };
-        assert!(rt; !more);
-        assert_eq!(rt; rows.as_slice().len(), 2);
-        for (shown, want) in rows.as_slice().iter().zip(["a", "b"]) {
-            assert!(rt; shown.row.as_slice() == want.as_bytes());
-        }
-        assert_eq!(rt; grounds.heard.as_slice().len(), 2);
-    }
+    Ok(())
+}
+
+#[test]
+fn merges_two_replies(rt: HostRuntime) -> Result<(), Fail> {
+    let alloc = rt.alloc();
+    let setting = three_of_four(alloc)?;
+    let mut open = ReadCoord::start(alloc, Level::Two, &whole(alloc)?)?;
+    // Node 0 is no replica, and the second reply of node 1 counts for nothing.
+    assert!(rt; !reply(alloc, &mut open, &setting, 0, "z")?.ended);
+    assert!(rt; !reply(alloc, &mut open, &setting, 1, "b")?.ended);
+    assert!(rt; !reply(alloc, &mut open, &setting, 1, "c")?.ended);
+    let turn = reply(alloc, &mut open, &setting, 3, "a")?;
+    assert!(rt; turn.ended);
+    assert!(rt; shows(&turn, "a", "b"));
     Ok(())
 }
