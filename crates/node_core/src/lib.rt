@@ -6,7 +6,5 @@ mod kept;
 mod node;
 mod requests;
 mod taking;
-#[cfg(test)]
-mod tests;
 
 pub use node::{Node, StepError};
