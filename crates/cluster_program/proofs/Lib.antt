@@ -1,5 +1,3 @@
 pub mod ProgramLaws
-pub mod RowLaws
 pub mod RunLaws
-pub mod ShownLaws
 pub mod StreamLaws

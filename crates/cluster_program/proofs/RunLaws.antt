@@ -1,92 +1,91 @@
--- A run goes on by one request.
-use Rattle.std.proofs.Common.{◌≡◌, ℕ, ◌+◌, List, [], ◌∷◌, ◌++◌, true, refl, sym, ◌∙◌, ap, subst, eqb}
-use Rattle.std.proofs.lemmas.Bool.{and_from, eq-eqb, cond-true}
-use Rattle.cs_base.specs.declared.ids.ReqId.{ReqId}
-use Rattle.cs_base.specs.Requests.{is_request}
-use Rattle.cs_base.specs.declared.level.Level.TheVariants.{One}
-use Rattle.std.proofs.Common.{Some}
-use Rattle.std.proofs.lemmas.List.{append-nil}
-use Rattle.changes.specs.declared.Change.{Change}
-use Rattle.changes.specs.declared.Query.{Query}
-use Rattle.changes.specs.Shown.{IsShown}
-use Rattle.fault_script.specs.declared.script.PutRequest.{PutRequest}
-use Rattle.fault_script.specs.declared.script.GetRequest.{GetRequest}
-use Rattle.fault_script.specs.declared.script.Request.{Request}
-use Rattle.fault_script.specs.declared.script.Request.TheVariants.{Put, Get}
-use Rattle.cluster_program.specs.declared.run.Runner.{Runner}
-use Rattle.cluster_program.specs.Answered.{IsFresh, GoesOn, Answers}
-use Rattle.cluster_program.specs.Chronicle.{Entry, Asked, Began, Run, begun, put, get, changes_of, query_of, SubmittedTo, ReadsShowSubmitted, put_change, put_entries, get_entries, id_at, kv_partition, kv_query}
-use Rattle.cluster_program.specs.Printed.{printed, asked_count, number_of, acked_line, rows_lines}
-use Rattle.cluster_program.specs.Rows.{InPartition}
-use Rattle.cluster_program.specs.Runs.{IsRunInPrint}
+-- The run of a script goes on by one event, and no event changes the setting.
+use Rattle.std.proofs.Common.{◌≡◌, ℕ, zero, suc, Bool, true, false, Option, Some, None, List, [], ◌∷◌, ◌++◌, refl, sym, ap, subst, ◌∙◌}
+use Rattle.std.specs.Prelude.{Result, Ok, Err, IfOk, MatchBool, nat_lt, slice_get}
+use Rattle.peer_messages.specs.declared.message.Message.{Message}
+use Rattle.peer_messages.specs.declared.event.What.{What}
+use Rattle.peer_messages.specs.declared.event.What.TheVariants.{Client, Deliver, Tick}
+use Rattle.peer_messages.specs.declared.setting.Setting.{Setting}
+use Rattle.node_steps.specs.State.{NodeState}
+use Rattle.node_steps.specs.Steps.{time_after, end_of_time}
+use Rattle.read_consistency.specs.ReadRight.{ReadRight}
+use Rattle.chronicle_print.specs.Printed.{printed}
+use Rattle.cluster_model.specs.State.{ClusterState, IsReached, fresh_cluster, place_of, oldest_from, passed_over}
+use Rattle.cluster_model.specs.Takes.{Comes, ComesAt, StepsAt, Arrives, Delivers, Settles, Takes, event_of as what_event, not_stepped, lost}
+use Rattle.cluster_model.specs.declared.event.ClusterEvent.{ClusterEvent}
+use Rattle.cluster_model.specs.declared.event.ClusterEvent.TheVariants as event
+use Rattle.fault_script.specs.declared.script.Script.{Script}
+use Rattle.fault_script.specs.declared.script.ScriptEvent.{ScriptEvent}
+use Rattle.cluster_program.specs.Requests.{event_of, setting_of}
+use Rattle.cluster_program.specs.Runs.{Plays, IsRunInPrint}
 
--- the runner has run these requests
-pub record HasRun (requests : List Request) (runner : Runner) : Type 0 where
-  pub chronicle : List Entry
-  pub run : Run requests runner.node.time chronicle
-  pub reads : ReadsShowSubmitted chronicle
-  pub changes : runner.node.changes.items ≡ changes_of chronicle
-  pub number : runner.number ≡ asked_count chronicle
-  pub print : runner.out.items ≡ printed chronicle
+-- ---- one event more
 
--- two entries that print nothing, and one that prints this
-printed_more : (earlier : List Entry) (line : List ℕ) → ((printed earlier ++ []) ++ []) ++ line ≡ printed earlier ++ line
-printed_more earlier line = ap (λ (t : List ℕ). t ++ line) (append-nil (printed earlier ++ []) ∙ append-nil (printed earlier))
+pub plays_more : (v mid v' : ClusterState) (es : List ScriptEvent) (e : ScriptEvent) → Plays v es mid → Takes mid (event_of e) v' → Plays v (es ++ e ∷ []) v'
+plays_more v mid v' [] e h takes = (v', subst (λ (x : ClusterState). Takes x (event_of e) v') h takes, refl)
+plays_more v mid v' (x ∷ es) e (next, first, rest) takes = (next, first, plays_more next mid v' es e rest takes)
 
-own_request : (r : ReqId) → is_request r r ≡ true
-own_request r = and_from (eqb r.node r.node) (eqb r.time r.time) (eq-eqb r.node r.node refl) (eq-eqb r.time r.time refl)
+-- ---- the setting stays
 
-asked_number : (r : ReqId) (earlier : List Entry) → number_of (Asked r ∷ earlier) r ≡ asked_count earlier + 1
-asked_number r earlier = cond-true (is_request r r) (asked_count earlier + 1) (number_of earlier r) (own_request r)
+abbrev Stays : ClusterState → ClusterState → Type 0
+Stays v v' = v'.setting ≡ v.setting
 
-own_query : (r : ReqId) (q : Query) (earlier : List Entry) → query_of (Began r q One ∷ earlier) r ≡ Some q
-own_query r q earlier = cond-true (is_request r r) (Some q) (query_of earlier r) (own_request r)
+same_stays : (v v' : ClusterState) → v' ≡ v → Stays v v'
+same_stays v v' same = ap (λ (x : ClusterState). x.setting) same
 
-pub has_begun : (runner : Runner) → IsFresh runner → HasRun [] runner
-has_begun runner h = record {
-  chronicle = [];
-  run = subst (λ (t : ℕ). Run [] t []) (sym h.time) begun;
-  reads = tt;
-  changes = h.changes;
-  number = h.number;
-  print = h.out;
-}
+unstepped_stays : (v : ClusterState) (k : ℕ) (what : What) → Stays v (not_stepped v k what)
+unstepped_stays v k (Client ask) = refl
+unstepped_stays v k (Deliver m) = refl
+unstepped_stays v k Tick = refl
 
-put_goes : (requests : List Request) (old new : Runner) (p : PutRequest) → Answers old (Put p) new → HasRun requests old → HasRun (requests ++ Put p ∷ []) new
-put_goes requests old new p (goes, changes, out) h =
-    let id = id_at (old.node.time + 1) in
-    let more = put_entries p id ++ h.chronicle in record {
-      chronicle = more;
-      run = subst (λ (t : ℕ). Run (requests ++ Put p ∷ []) t more) (sym goes.time) (put requests old.node.time h.chronicle p h.run);
-      reads = h.reads;
-      changes = changes ∙ ap (λ (cs : List Change). cs ++ put_change p id ∷ []) h.changes;
-      number = goes.number ∙ ap (λ (n : ℕ). n + 1) h.number;
-      print = out ∙ ap (λ (t : List ℕ). t ++ acked_line (old.number + 1)) h.print ∙ ap (λ (n : ℕ). printed h.chronicle ++ acked_line n) (ap (λ (n : ℕ). n + 1) h.number ∙ sym (asked_number id h.chronicle))
-          ∙ sym (printed_more h.chronicle (acked_line (number_of (Asked id ∷ h.chronicle) id)));
+taken_stays : (b : Bool) (v v' : ClusterState) (k : ℕ) (s : NodeState) (what : What) → MatchBool b (v' ≡ not_stepped v k what) (StepsAt v k s what v') → Stays v v'
+taken_stays true v v' k s what h = same_stays (not_stepped v k what) v' h ∙ unstepped_stays v k what
+taken_stays false v v' k s what h = ap (λ (x : ClusterState). x.setting) h.state
+
+at_stays : (o : Option NodeState) (v v' : ClusterState) (k : ℕ) (what : What) → ComesAt v k what o v' → Stays v v'
+at_stays None v v' k what h = same_stays v v' h
+at_stays (Some s) v v' k what h = taken_stays (nat_lt end_of_time (time_after s (what_event what))) v v' k s what h
+
+arrives_stays : (o : Option Message) (v v' : ClusterState) (i : ℕ) → Arrives v i o v' → Stays v v'
+arrives_stays None v v' i h = same_stays v v' h
+arrives_stays (Some m) v v' i (mid, comes, is) = same_stays (passed_over mid i) v' is ∙ at_stays (slice_get v.nodes m.upto) v mid m.upto (Deliver m) comes
+
+delivers_stays : (o : Option ℕ) (v v' : ClusterState) → Delivers v o v' → Stays v v'
+delivers_stays None v v' h = same_stays v v' h
+delivers_stays (Some i) v v' h = arrives_stays (slice_get v.post.sent i) v v' i h
+
+lost_stays : (o : Option ℕ) (v : ClusterState) → Stays v (lost v o)
+lost_stays None v = refl
+lost_stays (Some i) v = refl
+
+settles_stays : (n : ℕ) (v v' : ClusterState) → Settles n v v' → Stays v v'
+settles_stays zero v v' h = same_stays v v' h
+settles_stays (suc n) v v' (mid, first, rest) = settles_stays n mid v' rest ∙ delivers_stays (oldest_from 0 v.post.passed) v mid first
+
+takes_stays : (e : ClusterEvent) (v v' : ClusterState) → Takes v e v' → Stays v v'
+takes_stays (event.Ask k ask) v v' h = at_stays (slice_get v.nodes k) v v' k (Client ask) h
+takes_stays (event.Deliver from upto k) v v' h = delivers_stays (place_of from upto k v.post.sent) v v' h
+takes_stays (event.Lose from upto k) v v' h = same_stays (lost v (place_of from upto k v.post.sent)) v' h ∙ lost_stays (place_of from upto k v.post.sent) v
+takes_stays (event.Settle n) v v' h = settles_stays n v v' h
+
+pub plays_stays : (es : List ScriptEvent) (v v' : ClusterState) → Plays v es v' → Stays v v'
+plays_stays [] v v' h = same_stays v v' h
+plays_stays (e ∷ es) v v' (mid, first, rest) = plays_stays es mid v' rest ∙ takes_stays (event_of e) v mid first
+
+-- ---- the whole run
+
+pub in_print : (script : Script) (text : List ℕ) (c : Setting) (before after : ClusterState) (es : List ScriptEvent) → c ≡ setting_of script → before ≡ fresh_cluster c → es ≡ script.events → Plays before es after
+    → IsReached after → ReadRight after.setting after.chronicle → text ≡ printed after.chronicle → IsRunInPrint script text
+in_print script text c before after es setting fresh events plays reached right print =
+    let from : Plays (fresh_cluster (setting_of script)) script.events after =
+    subst (λ (d : Setting). Plays (fresh_cluster d) script.events after) setting (subst (λ (v : ClusterState). Plays v script.events after) fresh (subst (λ (xs : List ScriptEvent). Plays before xs after) events plays)) in
+    record {
+      after = after;
+      plays = from;
+      reached = reached;
+      right = subst (λ (d : Setting). ReadRight d after.chronicle) (plays_stays script.events (fresh_cluster (setting_of script)) after from) right;
+      print = print;
     }
 
-get_goes : (requests : List Request) (old new : Runner) (g : GetRequest) → Answers old (Get g) new → HasRun requests old → HasRun (requests ++ Get g ∷ []) new
-get_goes requests old new g a h =
-    let id = id_at (old.node.time + 1) in
-    let entries = get_entries g id a.rows a.more ++ h.chronicle in
-    let shows : IsShown (SubmittedTo h.chronicle (kv_partition g.key)) (kv_query g.key) a.rows a.more =
-    subst (λ (cs : List Change). IsShown (InPartition cs (kv_partition g.key)) (kv_query g.key) a.rows a.more) h.changes a.shown in record {
-      chronicle = entries;
-      run = subst (λ (t : ℕ). Run (requests ++ Get g ∷ []) t entries) (sym a.time) (get requests old.node.time h.chronicle g a.rows a.more h.run shows);
-      reads = ((kv_query g.key, own_query id (kv_query g.key) (Asked id ∷ h.chronicle), shows), h.reads);
-      changes = a.changes ∙ h.changes;
-      number = a.number ∙ ap (λ (n : ℕ). n + 1) h.number;
-      print = a.out ∙ ap (λ (t : List ℕ). t ++ rows_lines (old.number + 1) a.rows) h.print ∙ ap (λ (n : ℕ). printed h.chronicle ++ rows_lines n a.rows) (ap (λ (n : ℕ). n + 1) h.number ∙ sym (asked_number id h.chronicle))
-          ∙ sym (printed_more h.chronicle (rows_lines (number_of (Asked id ∷ h.chronicle) id) a.rows));
-    }
-
-pub has_run_on : (requests : List Request) (old new : Runner) (request : Request) → Answers old request new → HasRun requests old → HasRun (requests ++ request ∷ []) new
-has_run_on requests old new (Put p) a h = put_goes requests old new p a h
-has_run_on requests old new (Get g) a h = get_goes requests old new g a h
-
-pub in_print : (requests : List Request) (runner : Runner) → HasRun requests runner → IsRunInPrint requests runner.out.items
-in_print requests runner h = record { time = runner.node.time; chronicle = h.chronicle; run = h.run; reads = h.reads; print = h.print }
-
-pub goes_on : (old new : Runner) (request : Request) → Answers old request new → GoesOn old new
-goes_on old new (Put p) (goes, changes, out) = goes
-goes_on old new (Get g) a = record { time = a.time; number = a.number }
+pub if_ok_more : {T E : Type 0} {P Q : T → Type 0} (r : Result T E) → IfOk r P → ((t : T) → P t → Q t) → IfOk r Q
+if_ok_more (Ok t) h more = more t h
+if_ok_more (Err e) h more = h

@@ -2,7 +2,7 @@
 use Rattle.std.specs.Prelude.{◌≡◌, ◌⊎◌, ℕ, List, [], ◌∷◌, ◌++◌, Option, codes, Ok, Err}
 use Rattle.std.specs.Fmt.{decimal}
 use Rattle.cs_base.specs.Faults.{HasRisen}
-use Rattle.fault_script.specs.declared.script.Request.{Request}
+use Rattle.fault_script.specs.declared.script.Script.{Script}
 use Rattle.fault_script.specs.declared.script.ScriptError.{ScriptError}
 use Rattle.fault_script.specs.declared.script.ScriptError.TheVariants as refused
 use Rattle.fault_script.specs.declared.reader.ParseError.{ParseError}
@@ -23,7 +23,7 @@ command = codes "script" ∷ []
 
 -- the bytes are a script, and the text is the printed chronicle of a run of it
 abbrev pub IsRunOf : List ℕ → List ℕ → Type 0
-IsRunOf bytes text = (requests : List Request) × (script_of bytes ≡ Ok requests) × IsRunInPrint requests text
+IsRunOf bytes text = (script : Script) × (script_of bytes ≡ Ok script) × IsRunInPrint script text
 
 abbrev pub error_line : ScriptError → List ℕ
 error_line (refused.Head n) = decimal n ++ codes ": head expected" ++ 10 ∷ []

@@ -1,7 +1,4 @@
-pub mod Answered
-pub mod Chronicle
 pub mod Endings
-pub mod Printed
-pub mod Rows
+pub mod Requests
 pub mod Runs
 pub mod Streams

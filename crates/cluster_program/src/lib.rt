@@ -1,10 +1,8 @@
 //! The program: all that it does is the one call `run_cluster`.
 #![tactic(auto)]
 
-mod node;
-mod print;
 mod program;
-mod rows;
+mod requests;
 mod run;
 mod streams;
 #[cfg(test)]

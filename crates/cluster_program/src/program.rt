@@ -1,21 +1,21 @@
 //! The top call, and how it ends.
 
 ghost use Rattle.std.specs.Prelude.{◌≡◌, ◌≢◌, ◌⊎◌, ◌↔◌, ◌≤◌, ◌++◌, ◌∷◌, [], ℕ, List, Ok, map, codes, Some, Err, IsTrue, IfOk, IfErr, OnOk, IfSome, IsErrOf};
+ghost use Rattle.std.specs.Fmt.{decimal};
 ghost use Rattle.std.specs.String.{string_bytes};
 ghost use Rattle.cs_base.specs.Faults.{HasRisen};
 ghost use Rattle.fault_script.specs.Script.{script_of};
-ghost use Rattle.fault_script.specs.declared.script.Request.{Request as request_value};
+ghost use Rattle.fault_script.specs.declared.script.Script.{Script as script_value};
 ghost use Rattle.fault_script.specs.declared.script.ScriptError.{ScriptError};
 ghost use Rattle.cluster_program.specs.Endings.{command, IsRunOf, LeavesLine, RefusesScript, IsRefusalStatus, IsRefusedWith, IsServedWith, IsRefused, of_read, of_parse, error_line as error_line_of};
 ghost use Rattle.cluster_program.specs.Streams.{WritesAll, WritesFront};
 ghost use Rattle.cluster_program.specs.declared.program.Refusal.TheVariants.{NoMemory as RefusalMemory};
 
-use crate::print::push_number;
 use crate::run::run;
 use crate::streams::{ReadError, read_all, write_all};
 use cs_base::Failed;
 use cs_io::{Sink, Source};
-use fault_script::{ParseError, Request, ScriptError, parse};
+use fault_script::{ParseError, Script, ScriptError, parse};
 use std::alloc::{AllocError, Global};
 
 /// How the program ended. `script` never ends with `StoreFault`, `DoorFault`, `NoThread`, `HistoryFull` or `Damaged`,
@@ -97,8 +97,8 @@ impl From<ParseError> for Refusal {
 }
 
 /// The script that the source has left, read to its end.
-fn read_script<S: Source>(alloc: Global, source: &mut S) -> Result<Vec<Request>, Refusal>
-    ensures requests { IfOk result (λ requests. IfSome (S.remaining source.old) (λ left. script_of left ≡ Ok requests.items)) }
+fn read_script<S: Source>(alloc: Global, source: &mut S) -> Result<Script, Refusal>
+    ensures script { IfOk result (λ script. IfSome (S.remaining source.old) (λ left. script_of left ≡ Ok script)) }
     ensures end { OnOk result (IfSome (S.remaining source.old) (λ _. S.remaining source.new ≡ Some [])) }
     ensures refused { IfErr result (λ r. IfSome (S.remaining source.old) (λ left. IsRefused left r)) }
     ensures failed { IsErrOf result Refusal.ReadFault → HasRisen (S.faults source.old) (S.faults source.new) }
@@ -114,8 +114,8 @@ fn print_run<S: Source>(alloc: Global, source: &mut S) -> Result<Vec<u8>, Refusa
     ensures refused { IfErr result (λ r. IfSome (S.remaining source.old) (λ left. IsRefused left r)) }
     ensures failed { IsErrOf result Refusal.ReadFault → HasRisen (S.faults source.old) (S.faults source.new) }
 {
-    let requests = read_script(alloc, source)?;
-    Ok(run(alloc, &requests)?)
+    let script = read_script(alloc, source)?;
+    Ok(run(alloc, &script)?)
 }
 
 fn is_command(words: &[String]) -> bool
@@ -132,6 +132,13 @@ fn leave_line<T: Sink>(sink: &mut T, line: &[u8])
     ensures { LeavesLine (T.contents sink.old) (T.contents sink.new) (T.faults sink.old) (T.faults sink.new) line.now }
 {
     let _ = write_all(sink, line);
+}
+
+fn push_number(alloc: Global, out: &mut Vec<u8>, number: u64) -> Result<(), AllocError>
+    ensures { OnOk result (out.new.items ≡ out.old.items ++ decimal number) }
+{
+    let digits = number.to_string(alloc)?;
+    out.extend_from_slice(digits.as_bytes())
 }
 
 fn error_line(alloc: Global, error: ScriptError) -> Result<Vec<u8>, AllocError>
@@ -212,7 +219,7 @@ pub fn run_cluster<S: Source, T: Sink>(
     ensures written { result ≡ Status.WriteFault → IfSome (S.remaining source.old) (λ left. (text : List ℕ) × IsRunOf left text × WritesFront (T.contents sink.old) (T.contents sink.new) text) }
     ensures statuses { (result ≡ Status.Ok) ⊎ (result ≡ Status.Usage) ⊎ (result ≡ Status.WriteFault) ⊎ IsRefusalStatus result }
     ensures refused { IfSome (S.remaining source.old) (λ left. (error : ScriptError) → script_of left ≡ Err error → map string_bytes words.now ≡ command → IsRefusedWith result) }
-    ensures served { IfSome (S.remaining source.old) (λ left. (requests : List request_value) → script_of left ≡ Ok requests → map string_bytes words.now ≡ command → IsServedWith result) }
+    ensures served { IfSome (S.remaining source.old) (λ left. (script : script_value) → script_of left ≡ Ok script → map string_bytes words.now ≡ command → IsServedWith result) }
     ensures no_memory { result ≡ Status.NoMemory → LeavesLine (T.contents sink.old) (T.contents sink.new) (T.faults sink.old) (T.faults sink.new) (codes "no memory\n") }
 {
     if !is_command(words) {

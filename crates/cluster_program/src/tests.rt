@@ -73,10 +73,48 @@ fn answers_scripts(rt: HostRuntime) -> Result<(), Fail> {
             "# later lines may be older\n\nput 0 ONE k b 2 it's\nput 0 ONE k b -1 old\nput 0 ONE k a 1 x\nget 0 ONE k\n",
             "1 ok\n2 ok\n3 ok\n4 rows 2\n 'a' | 'x'\n 'b' | 'it''s'\n",
         ),
+        (
+            "put 0 TWO k a 5 x\nput 0 SERIAL k a 5 x\nget 0 LOCAL_SERIAL k\n",
+            "1 unavailable required 2 alive 1\n2 invalid SerialWrite\n3 invalid Level\n",
+        ),
+        ("deliver 0 0 1\ndrop 0 0 0\nsettle 100000\n", ""),
         ("", ""),
     ];
     for (lines, want) in cases {
         let script = behind_head(rt.alloc(), lines)?;
+        let ended = run(rt.alloc(), "script", script.as_str(), &SOUND)?;
+        assert_eq!(rt; ended.status, Status::Ok, "{lines}");
+        assert_eq!(rt; ended.text.as_slice(), want.as_bytes(), "{lines}");
+    }
+    Ok(())
+}
+
+const HEAD_OF_THREE: &str = "cassandra-script 1\nring -3 0 3\nrf 3\nrun\n";
+
+// Lost, repeated and late messages between three nodes.
+#[test]
+fn answers_scripts_of_three_nodes(rt: HostRuntime) -> Result<(), Fail> {
+    let cases = [
+        (
+            "put 0 QUORUM k a 5 x\ndeliver 0 1 1\ndeliver 1 0 1\nget 2 QUORUM k\ndeliver 2 1 1\ndeliver 1 2 1\n",
+            "1 ok\n2 rows 1\n 'a' | 'x'\n",
+        ),
+        (
+            "put 0 ALL k a 5 x\ndeliver 0 1 1\ndeliver 1 0 1\ndeliver 1 0 1\n",
+            "",
+        ),
+        (
+            "put 0 QUORUM k a 5 x\ndrop 0 1 1\nsettle 100\nget 1 ONE k\ndeliver 0 1 1\nget 1 ONE k\n",
+            "1 ok\n2 rows 0\n3 rows 1\n 'a' | 'x'\n",
+        ),
+        (
+            "put 0 ALL k a 5 x\nput 1 ALL k a 4 old\nsettle 100\nget 2 ALL k\nsettle 100\n",
+            "1 ok\n2 ok\n3 rows 1\n 'a' | 'x'\n",
+        ),
+    ];
+    for (lines, want) in cases {
+        let mut script = String::from_str(rt.alloc(), HEAD_OF_THREE)?;
+        script.push_str(lines)?;
         let ended = run(rt.alloc(), "script", script.as_str(), &SOUND)?;
         assert_eq!(rt; ended.status, Status::Ok, "{lines}");
         assert_eq!(rt; ended.text.as_slice(), want.as_bytes(), "{lines}");
@@ -111,7 +149,7 @@ fn refuses_what_is_no_script(rt: HostRuntime) -> Result<(), Fail> {
             "5: number out of range\n",
         ),
         (
-            "cassandra-script 1\nring 0\nrf 1\nrun\n# comment\nget 0 TWO k\n",
+            "cassandra-script 1\nring 0\nrf 1\nrun\n# comment\nget 0 ANY k\n",
             "6: number out of range\n",
         ),
         (

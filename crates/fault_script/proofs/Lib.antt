@@ -1,4 +1,9 @@
+pub mod Apart
+pub mod EventHolds
+pub mod EventWords
 pub mod FirstLine
-pub mod LineLaws
+pub mod HeadHolds
+pub mod Holding
 pub mod NumberLaws
+pub mod ScriptHolds
 pub mod WordLaws

@@ -1,10 +1,11 @@
 -- The words of a line, from the steps that find them.
-use Rattle.std.proofs.Common.{◌≡◌, ◌≢◌, ℕ, ◌-◌, ◌≤◌, Bool, true, false, not, List, [], ◌∷◌, Some, length, filter, cond, get_or, refl, sym, ◌∙◌, ap, eqb, leb, ◌==◌, Bor}
-use Rattle.std.specs.Prelude.{◌&&◌}
-use Rattle.std.specs.List.{slice_split}
+use Rattle.std.proofs.Math.Seq.{drop-cons}
+use Rattle.std.proofs.Common.{map, ◌++◌, append_assoc, ◌≡◌, ◌≢◌, ℕ, ◌+◌, ◌-◌, ◌<◌, ◌≤◌, drop, add-one, Bool, true, false, not, List, [], ◌∷◌, Some, length, filter, cond, get_or, refl, sym, ◌∙◌, ap, eqb, leb, ◌==◌, Bor}
+use Rattle.std.specs.Prelude.{ℤ, ◌&&◌}
+use Rattle.std.specs.List.{slice_split, list_all}
 use Rattle.std.specs.Str.Lossy.{utf8_valid_len}
-use Rattle.std.proofs.lemmas.Bool.{and_from, eq-eqb, le-leb, ne_eqb, not_from_false, cond-true}
-use Rattle.fault_script.specs.Script.{is_well_formed, words_of}
+use Rattle.std.proofs.lemmas.Bool.{and_from, and_parts, eq-eqb, le-leb, ne_eqb, not_from_false, cond-true}
+use Rattle.fault_script.specs.Script.{is_well_formed, words_of, signed_value}
 use Rattle.fault_script.specs.Words.{texts_of}
 
 pub well_formed_line : (line : List ℕ) → utf8_valid_len line ≡ length line → length line ≤ 4096 → get_or line 0 0 ≢ 32 → get_or line (length line - 1) 0 ≢ 32 → is_well_formed line ≡ true
@@ -36,3 +37,27 @@ words_found line text split kept same formed parts is =
     let found : texts_of kept ≡ filter is_word (slice_split (λ b. b == 32) line) =
     ap texts_of is ∙ texts_of-filter split ∙ ap (filter is_word) parts ∙ ap (λ (t : List ℕ). filter is_word (slice_split (λ b. b == 32) t)) same in
     ap (λ (ws : List (List ℕ)). Some ws) found ∙ sym (cond-true (is_well_formed line) _ _ formed)
+
+-- word i
+abbrev pub word_at : List (Bor (List ℕ)) → ℕ → List ℕ
+word_at ws i = (get_or ws i (record { ref_ptr = (0, 0); now = [] })).now
+
+-- the words from word i on
+texts_from : (ws : List (Bor (List ℕ))) (i : ℕ) → i < length ws → texts_of (drop i ws) ≡ word_at ws i ∷ texts_of (drop (i + 1) ws)
+texts_from ws i within =
+    ap texts_of (drop-cons ws i (record { ref_ptr = (0, 0); now = [] }) within) ∙ ap (λ (k : ℕ). word_at ws i ∷ texts_of (drop k ws)) (sym (add-one i))
+
+-- the numbers of the words so far, and of one word more
+pub read_more : (ws : List (Bor (List ℕ))) (i : ℕ) (tokens more : List ℤ) (token : ℤ) → i < length ws → more ≡ tokens ++ token ∷ [] → token ≡ signed_value (word_at ws i) → tokens ++ map signed_value (texts_of (drop i ws)) ≡ map signed_value (texts_of ws) → more ++ map signed_value (texts_of (drop (i + 1) ws)) ≡ map signed_value (texts_of ws)
+read_more ws i tokens more token within pushed value before =
+    let rest = map signed_value (texts_of (drop (i + 1) ws)) in
+    ap (λ (xs : List ℤ). xs ++ rest) pushed ∙ append_assoc tokens (token ∷ []) rest ∙ ap (λ (t : ℤ). tokens ++ t ∷ rest) value
+    ∙ ap (λ (texts : List (List ℕ)). tokens ++ map signed_value texts) (sym (texts_from ws i within)) ∙ before
+
+-- a test of the words left, where the first of them passes it
+pub passes_behind : (test : List ℕ → Bool) (ws : List (Bor (List ℕ))) (i : ℕ) → i < length ws → test (word_at ws i) ≡ true → list_all test (texts_of (drop i ws)) ≡ list_all test (texts_of (drop (i + 1) ws))
+passes_behind test ws i within passes = ap (list_all test) (texts_from ws i within) ∙ ap (λ (b : Bool). b && list_all test (texts_of (drop (i + 1) ws))) passes
+
+-- the first of the words left passes a test that all of them pass
+pub passes_here : (test : List ℕ → Bool) (ws : List (Bor (List ℕ))) (i : ℕ) → i < length ws → list_all test (texts_of (drop i ws)) ≡ true → test (word_at ws i) ≡ true
+passes_here test ws i within all = (and_parts (test (word_at ws i)) (list_all test (texts_of (drop (i + 1) ws))) (sym (ap (list_all test) (texts_from ws i within)) ∙ all)).0

@@ -1,9 +1,11 @@
-//! The numbers of a script.
+//! The numbers of a script, its nodes and its levels.
 
-ghost use Rattle.std.specs.Prelude.{◌≡◌, ◌==◌, true, false, IsTrue, MatchOption};
+ghost use Rattle.std.specs.Prelude.{◌≡◌, ◌≤◌, true, false, IsTrue, IfSome, MatchOption};
 ghost use Rattle.std.specs.Char.{is_ascii_digit};
 ghost use Rattle.std.specs.List.{list_all};
-ghost use Rattle.fault_script.specs.Script.{is_number as is_number_word, is_signed_number as is_signed_word, number_value, signed_value, is_long};
+ghost use Rattle.fault_script.specs.Script.{is_number as is_number_word, is_signed_number as is_signed_word, within as within_bounds, number_within as number_of, node_of as node_of_word, level_of as level_of_word, signed_value, is_long_word};
+
+use cs_base::{Level, NodeId};
 
 fn all_digits(word: &[u8]) -> bool
     ensures { result ≡ list_all is_ascii_digit word.now }
@@ -34,21 +36,63 @@ pub fn is_signed_number(word: &str) -> bool
     }
 }
 
-/// Whether the number is this one.
-pub fn is_value(word: &str, value: u64) -> bool
+fn within(number: u64, least: u64, most: u64) -> Option<u64>
+    ensures { result ≡ within_bounds least most number }
+{
+    if least <= number && number <= most {
+        Some(number)
+    } else {
+        None
+    }
+}
+
+/// The number, where it is one from `least` to `most`.
+pub fn number_within(word: &str, least: u64, most: u64) -> Option<u64>
     requires { IsTrue (is_number_word word.now) }
-    ensures { result ≡ (number_value word.now == value) }
+    ensures value { result ≡ number_of least most word.now }
+    ensures bound { IfSome result (λ number. number ≤ most) }
 {
     match word.parse::<u64>() {
-        Ok(number) => number == value,
-        Err(_) => false,
+        Ok(number) => within(number, least, most),
+        Err(_) => None,
+    }
+}
+
+/// The node of this number, where it is one of so many.
+pub fn node_of(nodes: u8, word: &str) -> Option<NodeId>
+    requires number { IsTrue (is_number_word word.now) }
+    requires some { 1 ≤ nodes }
+    requires few { nodes ≤ 7 }
+    ensures { result ≡ node_of_word nodes word.now }
+{
+    match number_within(word, 0, u64::from(nodes - 1)) {
+        Some(number) => NodeId::new(number as u8),
+        None => None,
+    }
+}
+
+/// The level of this name.
+pub fn level_of(word: &str) -> Option<Level>
+    ensures { result ≡ level_of_word word.now }
+{
+    match word {
+        "ONE" => Some(Level::One),
+        "TWO" => Some(Level::Two),
+        "THREE" => Some(Level::Three),
+        "QUORUM" => Some(Level::Quorum),
+        "ALL" => Some(Level::All),
+        "LOCAL_QUORUM" => Some(Level::LocalQuorum),
+        "SERIAL" => Some(Level::Serial),
+        "LOCAL_SERIAL" => Some(Level::LocalSerial),
+        "LOCAL_ONE" => Some(Level::LocalOne),
+        _ => None,
     }
 }
 
 /// The signed number, where it is one of 64 bits.
 pub fn long_value(word: &str) -> Option<i64>
     requires { IsTrue (is_signed_word word.now) }
-    ensures { MatchOption result (is_long (signed_value word.now) ≡ false) (λ z. (z ≡ signed_value word.now) × (is_long (signed_value word.now) ≡ true)) }
+    ensures { MatchOption result (is_long_word word.now ≡ false) (λ z. (z ≡ signed_value word.now) × (is_long_word word.now ≡ true)) }
 {
     match word.parse::<i64>() {
         Ok(number) => Some(number),

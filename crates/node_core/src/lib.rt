@@ -6,5 +6,7 @@ mod kept;
 mod node;
 mod requests;
 mod taking;
+#[cfg(test)]
+mod tests;
 
 pub use node::{Node, StepError};

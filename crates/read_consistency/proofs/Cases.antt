@@ -146,6 +146,7 @@ read_case c w k ask s q l e at may =
     ] in
     let fresh : ReadOk w' id (started_read l q) = record {
       begun = begun;
+      start = (q, l, contains_here (Began id q l) w.chronicle);
       is = λ p n h.
           let both = only p n h in
           record {

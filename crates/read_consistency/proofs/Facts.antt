@@ -23,7 +23,7 @@ use Rattle.node_steps.specs.State.{NodeState, OpenWrite, OpenRead, Holds}
 use Rattle.node_steps.specs.Acts.{Deed}
 use Rattle.cluster_runs.specs.Chronicle.{submission_of, StandsBefore}
 use Rattle.cluster_runs.specs.Trace.{Scene, IsAskAt}
-use Rattle.read_consistency.specs.ReadRight.{ReadRight}
+use Rattle.read_consistency.specs.ReadRight.{ReadRight, HasStart}
 
 -- the request was begun
 abbrev pub WasBegun : List Deed → ReqId → Type 0
@@ -92,6 +92,7 @@ pub record ReadIs (w : Scene) (id : ReqId) (o : OpenRead) (q : Query) (l : Level
 
 pub record ReadOk (w : Scene) (id : ReqId) (o : OpenRead) : Type 0 where
   pub begun : WasBegun w.past id
+  pub start : HasStart w.chronicle id
   pub is : (q : Query) (l : Level) → Contains w.chronicle (Began id q l) → ReadIs w id o q l
 
 pub record NodeOk (w : Scene) (s : NodeState) : Type 0 where

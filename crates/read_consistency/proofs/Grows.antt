@@ -95,6 +95,7 @@ write_on w w' g id o h = record {
 pub read_on : (c : Setting) (w w' : Scene) → Grows w w' → Explains c w → (id : ReqId) (o : OpenRead) → ReadOk w id o → ReadOk w' id o
 read_on c w w' g e id o h = record {
   begun = begun_on w w' g id h.begun;
+  start = (h.start.0, h.start.1, g.chronicle _ h.start.2);
   is = λ q l there.
       let old = h.is q l (g.begins id q l h.begun there) in
       record {

@@ -255,6 +255,7 @@ merged_ok c w from id content r next ok reply is merge =
     let heard : next.heard ≡ r.heard ++ from ∷ [] = ap (λ (x : OpenRead). x.heard) is in
     record {
       begun = ok.begun;
+      start = ok.start;
       is = λ q l there.
           let old = ok.is q l there in
           let new = reply q l there in
@@ -299,13 +300,15 @@ reply_answers c w k a id s n r' rows more e at ok enough shown =
     let old = node_on c w w' g e s (e.nodes k s at) in
     explains_telling c w k a s r [] x e at (λ p y h. h) tt
     (record { of = old.of; writes = old.writes; reads = λ i o h. old.reads i o (in_left (is_at (request_cmp id)) s.reads (i, o) h) })
-    (none_sent w' k) tt
-    (λ q l there.
-    let is = ok.is q l there in
-    right_answer c w id q l n.heard n.merged rows more e is.answers is.sees
-    (subst (λ (v : Level). needed c v q.partition ≤ heard_of (replicas_of c q.partition) n.heard) (sym is.level)
-    (subst (λ (v : Query). needed c n.level v.partition ≤ heard_of (replicas_of c v.partition) n.heard) (sym is.query) enough))
-    (subst (λ (v : Query). IsShown (Contains n.merged) v rows more) (sym is.query) shown))
+    (none_sent w' k) tt (
+      ok.start,
+      λ q l there.
+          let is = ok.is q l there in
+          right_answer c w id q l n.heard n.merged rows more e is.answers is.sees
+          (subst (λ (v : Level). needed c v q.partition ≤ heard_of (replicas_of c q.partition) n.heard) (sym is.level)
+          (subst (λ (v : Query). needed c n.level v.partition ≤ heard_of (replicas_of c v.partition) n.heard) (sym is.query) enough))
+          (subst (λ (v : Query). IsShown (Contains n.merged) v rows more) (sym is.query) shown),
+    )
 
 reply_counted : (c : Setting) (w : Scene) (k : ℕ) (a : Act) (id : ReqId) (s : NodeState) (n r' : OpenRead) (turn : Move) (b : Bool) → Explains c w → slice_get w.nodes k ≡ Some s → ReadOk w id n
     → nat_lt (heard_of (replicas_of c n.query.partition) n.heard) (needed c n.level n.query.partition) ≡ b → MatchBool b ((turn ≡ quiet) × (r' ≡ n)) (TellsRows id n turn)

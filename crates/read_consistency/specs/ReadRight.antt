@@ -52,8 +52,13 @@ pub record IsRight (c : Setting) (earlier : List Entry) (read : ReqId) (q : Quer
   -- the rows are those of the set
   pub shown : IsShown (InSet earlier q merged) q rows more
 
+-- the read has its start in the chronicle
+abbrev pub HasStart : List Entry → ReqId → Type 0
+HasStart earlier read = (q : Query) × (level : Level) × Contains earlier (Began read q level)
+
 abbrev pub IsRightEntry : Setting → List Entry → Entry → Type 0
-IsRightEntry c earlier (Rows read rows more grounds) = (q : Query) (level : Level) → Contains earlier (Began read q level) → IsRight c earlier read q level grounds.merged rows more
+IsRightEntry c earlier (Rows read rows more grounds) =
+    HasStart earlier read × ((q : Query) (level : Level) → Contains earlier (Began read q level) → IsRight c earlier read q level grounds.merged rows more)
 IsRightEntry c earlier (Asked r) = Unit {0}
 IsRightEntry c earlier (Submitted r m) = Unit {0}
 IsRightEntry c earlier (Acked r l heard) = Unit {0}
@@ -62,7 +67,7 @@ IsRightEntry c earlier (Began r q l) = Unit {0}
 IsRightEntry c earlier (Time k t) = Unit {0}
 IsRightEntry c earlier (Turned k refusal) = Unit {0}
 
--- each answer of a chronicle, newest first, is right
+-- each answer of a chronicle, newest first, has its start before it and is right
 abbrev pub ReadRight : Setting → List Entry → Type 0
 ReadRight c [] = Unit {0}
 ReadRight c (e ∷ earlier) = IsRightEntry c earlier e × ReadRight c earlier

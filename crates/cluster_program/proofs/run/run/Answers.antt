@@ -1,20 +1,10 @@
-use Rattle.std.proofs.Common.{◌+◌, ◌∙◌, ap, sym, subst, take, ℕ, List, arith}
-use Rattle.change_laws.proofs.Members.{front_more}
-use Rattle.fault_script.specs.declared.script.Request.{Request}
-use Rattle.cluster_program.proofs.RunLaws.{HasRun, has_begun, has_run_on, goes_on}
+use Rattle.std.proofs.Common.{◌≡◌, ◌∙◌, ap, ℕ, List, Result, Ok, Err, IfOk}
+use Rattle.chronicle_print.specs.Printed.{printed}
+use Rattle.cluster_program.proofs.RunLaws.{in_print, if_ok_more}
 use Rattle.cluster_program.proofs.run.run.Goals as goal
 
-pub loop-request-init : goal.loop-request-init
-loop-request-init c = record { run = has_begun c.new-runner.result c.new-runner.ensures; time = c.new-runner.ensures.time; number = c.new-runner.ensures.number }
-
-pub loop-request-preserved : goal.loop-request-preserved
-loop-request-preserved c =
-    let runner = c.loop-request.runner in
-    let inv = c.loop-request.invariant in
-    let index = c.loop-request.request-index in
-    let goes = goes_on runner c.take.new.self c.request-item.result c.in_ok-take.ensures in record {
-      run = subst (λ (rs : List Request). HasRun rs c.take.new.self) (sym (front_more c.args.requests.now index c.request-item.result (omega (arith)) c.request-item.is))
-          (has_run_on (take index c.args.requests.now) runner c.take.new.self c.request-item.result c.in_ok-take.ensures inv.run);
-      time = goes.time ∙ ap (λ (n : ℕ). n + 1) inv.time;
-      number = goes.number ∙ ap (λ (n : ℕ). n + 1) inv.number;
-    }
+pub returns : goal.returns
+returns c =
+    if_ok_more c.print_chronicle.result c.print_chronicle.ensures (λ text is.
+    in_print c.args.script.now text.items c.in_ok-setting_of.field-0 c.in_ok-cluster.cluster c.play.new.cluster c.as_slice.result.now c.in_ok-setting_of.ensures c.in_ok-cluster.ensures c.as_slice.ensures
+    c.in_ok-play.ensures c.chronicle.ensures.reached c.chronicle.ensures.right (is ∙ ap printed c.chronicle.ensures.entries))

@@ -1,0 +1,3 @@
+pub mod Lists
+pub mod PrinterLaws
+pub mod Rows

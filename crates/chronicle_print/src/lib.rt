@@ -1,0 +1,9 @@
+//! A chronicle in print: a line for each answer, with the number of its request.
+#![tactic(auto)]
+
+mod lines;
+mod printer;
+#[cfg(test)]
+mod tests;
+
+pub use printer::print_chronicle;

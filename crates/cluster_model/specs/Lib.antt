@@ -1,0 +1,4 @@
+pub mod State
+pub mod Takes
+pub mod Sites
+pub mod Mails

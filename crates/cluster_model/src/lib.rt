@@ -1,0 +1,14 @@
+//! A cluster of nodes in one process, with its network and its chronicle.
+#![tactic(auto)]
+
+mod cluster;
+mod copies;
+mod event;
+mod mail;
+mod parts;
+mod routes;
+#[cfg(test)]
+mod tests;
+
+pub use cluster::Cluster;
+pub use event::ClusterEvent;

@@ -1,0 +1,82 @@
+-- What a line after `run` gives is at nodes of the ring.
+use Rattle.std.proofs.Common.{ℕ, ◌^◌, ◌-◌, ◌<◌, List, [], ◌∷◌, Option, Some, None, arith, leb, ℤ}
+use Rattle.std.specs.Prelude.{◌&&◌, codes, IfOk, IfSome}
+use Rattle.std.specs.Str.{bytes_eq}
+use Rattle.std.specs.Option.{option_map}
+use Rattle.std.proofs.lemmas.Bool.{and_parts, leb-true}
+use Rattle.cs_base.specs.declared.level.Level.{Level}
+use Rattle.fault_script.specs.declared.script.ScriptEvent.TheVariants as event
+use Rattle.fault_script.specs.declared.script.Fault.TheVariants as fault
+use Rattle.fault_script.specs.Script.{put_line, put_of, get_line, get_of, message_line, place_of, settle_line, event_line, node_of, level_of, long_of, number_within, number_value, is_number, is_signed_number}
+use Rattle.fault_script.specs.Laws.{IsAtNodes, IsBetweenNodes}
+use Rattle.fault_script.proofs.Holding.{either_holds, some_where, understood_where, result_map_holds}
+
+node_holds : (nodes : ℕ) (word : List ℕ) → 0 < nodes → IfSome (node_of nodes word) (λ n. n < nodes)
+node_holds nodes word some =
+    let n = number_value word in
+    some_where (λ (m : ℕ). m < nodes) (leb 0 n && leb n (nodes - 1)) n (λ within.
+    let low = leb-true n (nodes - 1) (and_parts (leb 0 n) (leb n (nodes - 1)) within).1 in omega (arith, low, some))
+
+put_of_holds : (nodes : ℕ) (node : Option ℕ) (level : Option Level) (key row : List ℕ) (timestamp : Option ℤ) (value : List ℕ) → IfSome node (λ n. n < nodes) → IfSome (put_of node level key row timestamp value) (IsAtNodes nodes)
+put_of_holds nodes None level key row timestamp value h = tt
+put_of_holds nodes (Some node) None key row timestamp value h = tt
+put_of_holds nodes (Some node) (Some level) key row None value h = tt
+put_of_holds nodes (Some node) (Some level) key row (Some timestamp) value h = h
+
+put_line_holds : (nodes : ℕ) (words : List (List ℕ)) → 0 < nodes → IfOk (put_line nodes words) (IsAtNodes nodes)
+put_line_holds nodes [] some = tt
+put_line_holds nodes (a ∷ []) some = tt
+put_line_holds nodes (a ∷ b ∷ []) some = tt
+put_line_holds nodes (a ∷ b ∷ c ∷ []) some = tt
+put_line_holds nodes (a ∷ b ∷ c ∷ d ∷ []) some = tt
+put_line_holds nodes (a ∷ b ∷ c ∷ d ∷ e ∷ []) some = tt
+put_line_holds nodes (a ∷ b ∷ c ∷ d ∷ e ∷ f ∷ []) some =
+    understood_where (IsAtNodes nodes) fault.Line (is_number a && is_signed_number e) (put_of (node_of nodes a) (level_of b) c d (long_of e) f) (λ _. put_of_holds nodes (node_of nodes a) (level_of b) c d (long_of e) f (node_holds nodes a some))
+put_line_holds nodes (a ∷ b ∷ c ∷ d ∷ e ∷ f ∷ g ∷ words) some = tt
+
+get_of_holds : (nodes : ℕ) (node : Option ℕ) (level : Option Level) (key : List ℕ) → IfSome node (λ n. n < nodes) → IfSome (get_of node level key) (IsAtNodes nodes)
+get_of_holds nodes None level key h = tt
+get_of_holds nodes (Some node) None key h = tt
+get_of_holds nodes (Some node) (Some level) key h = h
+
+get_line_holds : (nodes : ℕ) (words : List (List ℕ)) → 0 < nodes → IfOk (get_line nodes words) (IsAtNodes nodes)
+get_line_holds nodes [] some = tt
+get_line_holds nodes (a ∷ []) some = tt
+get_line_holds nodes (a ∷ b ∷ []) some = tt
+get_line_holds nodes (a ∷ b ∷ c ∷ []) some =
+    understood_where (IsAtNodes nodes) fault.Line (is_number a) (get_of (node_of nodes a) (level_of b) c) (λ _. get_of_holds nodes (node_of nodes a) (level_of b) c (node_holds nodes a some))
+get_line_holds nodes (a ∷ b ∷ c ∷ d ∷ words) some = tt
+
+place_of_holds : (nodes : ℕ) (from upto number : Option ℕ) → IfSome from (λ n. n < nodes) → IfSome upto (λ n. n < nodes) → IfSome (place_of from upto number) (IsBetweenNodes nodes)
+place_of_holds nodes None upto number h k = tt
+place_of_holds nodes (Some from) None number h k = tt
+place_of_holds nodes (Some from) (Some upto) None h k = tt
+place_of_holds nodes (Some from) (Some upto) (Some number) h k = (h, k)
+
+message_line_holds : (nodes : ℕ) (words : List (List ℕ)) → 0 < nodes → IfOk (message_line nodes words) (IsBetweenNodes nodes)
+message_line_holds nodes [] some = tt
+message_line_holds nodes (a ∷ []) some = tt
+message_line_holds nodes (a ∷ b ∷ []) some = tt
+message_line_holds nodes (a ∷ b ∷ c ∷ []) some =
+    let number = number_within 0 (2 ^ 64 - 1) c in
+    understood_where (IsBetweenNodes nodes) fault.Line (is_number a && is_number b && is_number c) (place_of (node_of nodes a) (node_of nodes b) number)
+    (λ _. place_of_holds nodes (node_of nodes a) (node_of nodes b) number (node_holds nodes a some) (node_holds nodes b some))
+message_line_holds nodes (a ∷ b ∷ c ∷ d ∷ words) some = tt
+
+count_holds : (nodes : ℕ) (count : Option ℕ) → IfSome (option_map event.Settle count) (IsAtNodes nodes)
+count_holds nodes None = tt
+count_holds nodes (Some count) = tt
+
+settle_line_holds : (nodes : ℕ) (words : List (List ℕ)) → IfOk (settle_line words) (IsAtNodes nodes)
+settle_line_holds nodes [] = tt
+settle_line_holds nodes (a ∷ []) = understood_where (IsAtNodes nodes) fault.Line (is_number a) (option_map event.Settle (number_within 1 100000 a)) (λ _. count_holds nodes (number_within 1 100000 a))
+settle_line_holds nodes (a ∷ b ∷ words) = tt
+
+pub event_line_holds : (nodes : ℕ) (words : List (List ℕ)) → 0 < nodes → IfOk (event_line nodes words) (IsAtNodes nodes)
+event_line_holds nodes [] some = tt
+event_line_holds nodes (word ∷ words) some =
+    either_holds (IsAtNodes nodes) (bytes_eq word (codes "put")) _ _ (put_line_holds nodes words some)
+    (either_holds (IsAtNodes nodes) (bytes_eq word (codes "get")) _ _ (get_line_holds nodes words some)
+    (either_holds (IsAtNodes nodes) (bytes_eq word (codes "deliver")) _ _ (result_map_holds (IsAtNodes nodes) event.Deliver (message_line nodes words) (message_line_holds nodes words some))
+    (either_holds (IsAtNodes nodes) (bytes_eq word (codes "drop")) _ _ (result_map_holds (IsAtNodes nodes) event.Drop (message_line nodes words) (message_line_holds nodes words some))
+    (either_holds (IsAtNodes nodes) (bytes_eq word (codes "settle")) _ _ (settle_line_holds nodes words) tt))))

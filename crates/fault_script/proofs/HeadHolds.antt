@@ -1,0 +1,104 @@
+-- What the lines of the head give is a ring, and a factor of its.
+use Rattle.std.proofs.Common.{◌≡◌, ℕ, zero, suc, ◌^◌, ◌≤◌, Bool, true, false, List, [], ◌∷◌, Option, Some, None, Result, Ok, Err, length, map, refl, cond, subst, arith, leb, FitsSigned, w64, ℤ, pos, negsuc}
+use Rattle.std.specs.Prelude.{◌&&◌, codes, IfOk, IfSome}
+use Rattle.std.specs.List.{list_all}
+use Rattle.std.specs.Str.{bytes_eq}
+use Rattle.std.specs.Option.{option_map}
+use Rattle.std.proofs.lemmas.Bool.{and_parts, leb-true, ltb-true}
+use Rattle.std.proofs.lemmas.List.{length-map}
+use Rattle.cs_base.specs.Ring.{AreTokens, IsRing}
+use Rattle.fault_script.specs.declared.script.Stage.{Stage}
+use Rattle.fault_script.specs.declared.script.Stage.TheVariants as stage
+use Rattle.fault_script.specs.declared.script.Fault.{Fault}
+use Rattle.fault_script.specs.declared.script.Fault.TheVariants as fault
+use Rattle.fault_script.specs.Script.{version_line, ring_line, ring_of, factor_line, run_line, understood, are_apart, are_tokens, tokens_of, is_long, is_long_word, signed_value, is_signed_number, is_number, number_value, number_within}
+use Rattle.fault_script.proofs.Apart.{passing_apart}
+use Rattle.fault_script.proofs.Holding.{some_where, understood_where, option_map_holds}
+
+-- a factor from 1 to the number of nodes
+pub record IsFactor (tokens : List ℤ) (factor : ℕ) : Type 0 where
+  pub ring : IsRing tokens
+  pub some : 1 ≤ factor
+  pub few : factor ≤ length tokens
+
+-- what the lines found so far say
+abbrev pub Knows : Stage → Type 0
+Knows stage.Version = Unit {0}
+Knows stage.Ring = Unit {0}
+Knows (stage.Factor ring) = IsRing ring
+Knows (stage.Run ring factor) = IsFactor ring factor
+Knows (stage.Events ring factor) = IsFactor ring factor
+
+pub version_holds : (words : List (List ℕ)) → IfOk (version_line words) Knows
+version_holds [] = tt
+version_holds (word ∷ []) = tt
+version_holds (word ∷ version ∷ []) = understood_where Knows fault.Head (bytes_eq word (codes "cassandra-script") && bytes_eq version (codes "1")) (Some stage.Ring) (λ _. tt)
+version_holds (word ∷ version ∷ more ∷ words) = tt
+
+-- ---- the ring
+
+fits_from : (z : ℤ) → is_long z ≡ true → FitsSigned w64 z
+fits_from (pos n) h = record { sfits = ltb-true n (2 ^ 63) h }
+fits_from (negsuc n) h = record { sfits = ltb-true n (2 ^ 63) h }
+
+tokens_fit : (words : List (List ℕ)) → list_all is_long_word words ≡ true → AreTokens (map signed_value words)
+tokens_fit [] long k t h = cc
+tokens_fit (word ∷ words) long zero t h =
+    let parts = and_parts (is_long_word word) (list_all is_long_word words) long in
+    subst (λ (z : Option ℤ). IfSome z (FitsSigned w64)) h (fits_from (signed_value word) parts.0)
+tokens_fit (word ∷ words) long (suc k) t h = tokens_fit words (and_parts (is_long_word word) (list_all is_long_word words) long).1 k t h
+
+ring_holds : (words : List (List ℕ)) → are_tokens words ≡ true → list_all is_long_word words ≡ true → are_apart (map signed_value words) ≡ true → IsRing (map signed_value words)
+ring_holds words tokens long apart =
+    let count = (and_parts (leb 1 (length words) && leb (length words) 7) (list_all is_signed_number words) tokens).0 in
+    let bounds = and_parts (leb 1 (length words)) (leb (length words) 7) count in
+    let some : 1 ≤ length words = leb-true 1 (length words) bounds.0 in
+    let few : length words ≤ 7 = leb-true (length words) 7 bounds.1 in
+    let same : length (map signed_value words) ≡ length words = length-map words signed_value in
+    record {
+      some = omega (arith, some, same);
+      few = omega (arith, few, same);
+      tokens = tokens_fit words long;
+      apart = passing_apart (map signed_value words) apart;
+    }
+
+abbrev passed : List ℤ → Bool → Result Stage Fault
+passed ring apart = cond apart (Ok (stage.Factor ring)) (Err fault.Head)
+
+passing_holds : (ring : List ℤ) (apart : Bool) → (apart ≡ true → IsRing ring) → IfOk (passed ring apart) Knows
+passing_holds ring true is = is refl
+passing_holds ring false is = tt
+
+apart_holds : (f : Fault) (b : Bool) (ring : Option (List ℤ)) → (b ≡ true → IfSome ring (λ r. are_apart r ≡ true → IsRing r)) → IfOk (ring_of (understood f b ring)) Knows
+apart_holds f false ring h = tt
+apart_holds f true None h = tt
+apart_holds f true (Some ring) h = passing_holds ring (are_apart ring) (h refl)
+
+pub ring_line_holds : (words : List (List ℕ)) → IfOk (ring_line words) Knows
+ring_line_holds [] = tt
+ring_line_holds (word ∷ tokens) =
+    apart_holds fault.Head (bytes_eq word (codes "ring") && are_tokens tokens) (tokens_of tokens)
+    (λ is. some_where (λ (ring : List ℤ). are_apart ring ≡ true → IsRing ring) (list_all is_long_word tokens) (map signed_value tokens)
+    (λ long apart. ring_holds tokens (and_parts (bytes_eq word (codes "ring")) (are_tokens tokens) is).1 long apart))
+
+-- ---- the factor
+
+factor_holds : (ring : List ℤ) (word : List ℕ) → IsRing ring → IfSome (number_within 1 (length ring) word) (IsFactor ring)
+factor_holds ring word is =
+    let n = number_value word in
+    some_where (IsFactor ring) (leb 1 n && leb n (length ring)) n (λ within.
+    let parts = and_parts (leb 1 n) (leb n (length ring)) within in
+    record { ring = is; some = leb-true 1 n parts.0; few = leb-true n (length ring) parts.1 })
+
+pub factor_line_holds : (ring : List ℤ) (words : List (List ℕ)) → IsRing ring → IfOk (factor_line ring words) Knows
+factor_line_holds ring [] is = tt
+factor_line_holds ring (word ∷ []) is = tt
+factor_line_holds ring (word ∷ factor ∷ []) is =
+    understood_where Knows fault.Head (bytes_eq word (codes "rf") && is_number factor) (option_map (stage.Run ring) (number_within 1 (length ring) factor))
+    (λ _. option_map_holds Knows (stage.Run ring) (number_within 1 (length ring) factor) (factor_holds ring factor is))
+factor_line_holds ring (word ∷ factor ∷ more ∷ words) is = tt
+
+pub run_line_holds : (ring : List ℤ) (factor : ℕ) (words : List (List ℕ)) → IsFactor ring factor → IfOk (run_line ring factor words) Knows
+run_line_holds ring factor [] is = tt
+run_line_holds ring factor (word ∷ []) is = understood_where Knows fault.Head (bytes_eq word (codes "run")) (Some (stage.Events ring factor)) (λ _. is)
+run_line_holds ring factor (word ∷ more ∷ words) is = tt
