@@ -1,0 +1,10 @@
+pub mod Words
+pub mod Steps
+pub mod Splits
+pub mod Heads
+pub mod Rules
+pub mod Apart
+pub mod Plain
+pub mod Whole
+pub mod Faults
+pub mod Refusals

@@ -1,0 +1,6 @@
+pub mod Numbers
+pub mod Indexing
+pub mod Steps
+pub mod Sizes
+pub mod Order
+pub mod Runs

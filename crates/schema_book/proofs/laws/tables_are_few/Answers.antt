@@ -1,0 +1,5 @@
+use Rattle.schema_book.proofs.Runs.{tables_are_few}
+use Rattle.schema_book.proofs.laws.tables_are_few.Goals as goal
+
+pub returns : goal.returns
+returns c = tables_are_few

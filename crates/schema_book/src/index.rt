@@ -1,0 +1,85 @@
+//! Where tables stand, by keyspace and name.
+
+ghost use Rattle.std.specs.Prelude.{◌≡◌, IfOk, OnOk, option_copied};
+ghost use Rattle.schema_book.specs.Places.{Enters, EntersTable, IsIndexOf, TakesOut, place_of};
+
+use crate::table::Table;
+use cs_base::Text;
+use std::alloc::{AllocError, Global};
+use std::collections::BTreeMap;
+
+/// The places of a keyspace's tables, by name.
+#[derive(Drop)]
+pub(crate) struct Names {
+    pub places: BTreeMap<String, usize>,
+}
+
+/// The places of tables in a list.
+#[derive(Drop)]
+pub(crate) struct Index {
+    pub keyspaces: BTreeMap<String, Names>,
+}
+
+impl Names {
+    /// Adds the place of a name, unless it has one.
+    fn enter(mut self, alloc: Global, name: &Text, place: usize) -> Result<Names, AllocError>
+        ensures { IfOk result (Enters self name.now place) }
+    {
+        if self.places.contains_key(name.as_str()) {
+            return Ok(self);
+        }
+        self.places
+            .insert(String::from_str(alloc, name.as_str())?, place)?;
+        Ok(self)
+    }
+}
+
+impl Index {
+    /// The names of a keyspace, which it loses.
+    fn take_out(&mut self, alloc: Global, keyspace: &Text) -> Names
+        ensures { TakesOut self.old keyspace.now self.new result }
+    {
+        match self.keyspaces.remove(keyspace.as_str()) {
+            Some(names) => names,
+            None => Names {
+                places: BTreeMap::new(alloc),
+            },
+        }
+    }
+
+    /// Adds the place of a table, unless its names have one.
+    fn enter(&mut self, alloc: Global, table: &Table, place: usize) -> Result<(), AllocError>
+        ensures { OnOk result (EntersTable self.old table.now place self.new) }
+    {
+        let names = self.take_out(alloc, &table.keyspace);
+        let names = names.enter(alloc, &table.name, place)?;
+        let keyspace = String::from_str(alloc, table.keyspace.as_str())?;
+        self.keyspaces.insert(keyspace, names)?;
+        Ok(())
+    }
+
+    /// The places of these tables.
+    pub(crate) fn of(alloc: Global, tables: &[Table]) -> Result<Index, AllocError>
+        ensures { IfOk result (λ index. IsIndexOf tables.now index tables.now) }
+    {
+        let mut index = Index {
+            keyspaces: BTreeMap::new(alloc),
+        };
+        let mut place = 0;
+        for table in tables {
+            index.enter(alloc, table, place)?;
+            place += 1;
+        }
+        Ok(index)
+    }
+
+    /// The place of the table of these names.
+    pub(crate) fn place(&self, keyspace: &str, name: &str) -> Option<usize>
+        ensures { result ≡ place_of self.now keyspace.now name.now }
+    {
+        match self.keyspaces.get(keyspace) {
+            Some(names) => names.places.get(name).copied(),
+            None => None,
+        }
+    }
+}
