@@ -129,7 +129,7 @@ symbol kind = Made (λ t. tt) (Token (Symbol kind))
 infixr 12 ◌▹◌
 infixl 13 ◌◃◌
 infixr 11 ◌&◌
-infixr 10 ◌/◌
+infixr 10 ◌⊕◌
 abbrev pub ◌&◌ : {A B : Type 0} → Form A → Form B → Form (A × B)
 f & g = Then f g
 
@@ -141,8 +141,8 @@ f ▹ g = Made (λ v. v.1) (Then f g)
 abbrev pub ◌◃◌ : {A : Type 0} → Form A → Form (Unit {0}) → Form A
 f ◃ g = Made (λ v. v.0) (Then f g)
 
-abbrev pub ◌/◌ : {A : Type 0} → Form A → Form A → Form A
-f / g = Or f g
+abbrev pub ◌⊕◌ : {A : Type 0} → Form A → Form A → Form A
+f ⊕ g = Or f g
 
 -- [f]
 abbrev pub option : {A : Type 0} → Form A → Form (Option A)

@@ -43,7 +43,7 @@ use Rattle.cql_statement.specs.declared.select.Selection.{Selection}
 use Rattle.cql_statement.specs.declared.select.Selection.TheVariants as selections
 use Rattle.cql_statement.specs.declared.statement.Statement.{Statement}
 use Rattle.cql_statement.specs.declared.statement.Statement.TheVariants as statements
-use Rattle.cql_parser.specs.Forms.{Form, is_kind, word, symbol, type_named, option, optional, optional_list, flag, many, more, listed, joined, ◌▹◌, ◌◃◌, ◌&◌, ◌/◌}
+use Rattle.cql_parser.specs.Forms.{Form, is_kind, word, symbol, type_named, option, optional, optional_list, flag, many, more, listed, joined, ◌▹◌, ◌◃◌, ◌&◌, ◌⊕◌}
 use Rattle.cql_parser.specs.Forms.Terminal.{Word, Symbol, Name, NameBut, TypeWord}
 use Rattle.cql_parser.specs.Forms.Form.{Token, Nothing, Made}
 
@@ -109,24 +109,24 @@ boolean w = Made (literal_as literals.Bool) (Token (Word w))
 unfoldable pub term : Form Term
 term =
     Made (λ v. terms.Constant v) string
-    / Made (λ v. terms.Constant v) integer
-    / Made (λ v. terms.Constant v) blob
-    / Made (λ v. terms.Constant v) uuid
-    / Made (λ v. terms.Constant v) (boolean (codes "TRUE"))
-    / Made (λ v. terms.Constant v) (boolean (codes "FALSE"))
-    / Made (λ v. terms.Null) (word (codes "NULL"))
-    / Made (λ v. terms.Marker) (symbol kinds.QuestionMark)
-    / Made (λ v. terms.NamedMarker v) (symbol kinds.Colon ▹ name)
+    ⊕ Made (λ v. terms.Constant v) integer
+    ⊕ Made (λ v. terms.Constant v) blob
+    ⊕ Made (λ v. terms.Constant v) uuid
+    ⊕ Made (λ v. terms.Constant v) (boolean (codes "TRUE"))
+    ⊕ Made (λ v. terms.Constant v) (boolean (codes "FALSE"))
+    ⊕ Made (λ v. terms.Null) (word (codes "NULL"))
+    ⊕ Made (λ v. terms.Marker) (symbol kinds.QuestionMark)
+    ⊕ Made (λ v. terms.NamedMarker v) (symbol kinds.Colon ▹ name)
 
 -- ---- relations and tests
 
 unfoldable pub relation_operator : Form RelationOperator
 relation_operator =
     Made (λ v. relation_operators.Equal) (symbol kinds.Equal)
-    / Made (λ v. relation_operators.Less) (symbol kinds.Less)
-    / Made (λ v. relation_operators.LessOrEqual) (symbol kinds.LessOrEqual)
-    / Made (λ v. relation_operators.Greater) (symbol kinds.Greater)
-    / Made (λ v. relation_operators.GreaterOrEqual) (symbol kinds.GreaterOrEqual)
+    ⊕ Made (λ v. relation_operators.Less) (symbol kinds.Less)
+    ⊕ Made (λ v. relation_operators.LessOrEqual) (symbol kinds.LessOrEqual)
+    ⊕ Made (λ v. relation_operators.Greater) (symbol kinds.Greater)
+    ⊕ Made (λ v. relation_operators.GreaterOrEqual) (symbol kinds.GreaterOrEqual)
 
 abbrev pub relation_of : List ℕ × (RelationOperator × Term) → Relation
 relation_of v = record { column = v.0; operator = v.1.0; term = v.1.1 }
@@ -140,11 +140,11 @@ relations = joined relation
 abbrev pub test_operator : Form TestOperator
 test_operator =
     Made (λ v. test_operators.Equal) (symbol kinds.Equal)
-    / Made (λ v. test_operators.NotEqual) (symbol kinds.NotEqual)
-    / Made (λ v. test_operators.Less) (symbol kinds.Less)
-    / Made (λ v. test_operators.LessOrEqual) (symbol kinds.LessOrEqual)
-    / Made (λ v. test_operators.Greater) (symbol kinds.Greater)
-    / Made (λ v. test_operators.GreaterOrEqual) (symbol kinds.GreaterOrEqual)
+    ⊕ Made (λ v. test_operators.NotEqual) (symbol kinds.NotEqual)
+    ⊕ Made (λ v. test_operators.Less) (symbol kinds.Less)
+    ⊕ Made (λ v. test_operators.LessOrEqual) (symbol kinds.LessOrEqual)
+    ⊕ Made (λ v. test_operators.Greater) (symbol kinds.Greater)
+    ⊕ Made (λ v. test_operators.GreaterOrEqual) (symbol kinds.GreaterOrEqual)
 
 abbrev pub test_of : List ℕ × (TestOperator × Term) → Test
 test_of v = record { column = v.0; operator = v.1.0; term = v.1.1 }
@@ -166,7 +166,7 @@ tests_of v = conditions.Tests (test_of v.0 ∷ v.1)
 unfoldable pub condition_body : Form Condition
 condition_body =
     Made exists_of (word_as_name (codes "EXISTS") & option ((test_operator & term) & more_tests))
-    / Made tests_of ((other_name (codes "EXISTS") & test_operator & term) & more_tests)
+    ⊕ Made tests_of ((other_name (codes "EXISTS") & test_operator & term) & more_tests)
 
 -- IF EXISTS | IF test {AND test}
 abbrev pub condition : Form Condition
@@ -192,7 +192,7 @@ abbrev pub entry_of : Literal × Literal → ReplicationEntry
 entry_of v = record { key = v.0; value = v.1 }
 
 unfoldable pub entry : Form ReplicationEntry
-entry = Made entry_of (string & (symbol kinds.Colon ▹ (string / integer)))
+entry = Made entry_of (string & (symbol kinds.Colon ▹ (string ⊕ integer)))
 
 unfoldable pub replication : Form (List ReplicationEntry)
 replication = symbol kinds.OpenBrace ▹ listed entry ◃ symbol kinds.CloseBrace
@@ -222,7 +222,7 @@ abbrev pub column_of : List ℕ × (CqlType × Bool) → TableItem
 column_of v = items.Column (record { name = v.0; ty = v.1.0; is_primary_key = v.1.1 })
 
 unfoldable pub partition_key : Form (List (List ℕ))
-partition_key = parenthesized names / Made (λ v. v ∷ []) name
+partition_key = parenthesized names ⊕ Made (λ v. v ∷ []) name
 
 abbrev pub key_of : List (List ℕ) × List (List ℕ) → TableItem
 key_of v = items.PrimaryKey (record { partition = v.0; clustering = v.1 })
@@ -235,10 +235,10 @@ unfoldable pub key : Form TableItem
 key = Made key_of (partition_key & more_names)
 
 unfoldable pub item : Form TableItem
-item = (primary_key ▹ parenthesized key) / Made column_of (name & type_word & flag primary_key)
+item = (primary_key ▹ parenthesized key) ⊕ Made column_of (name & type_word & flag primary_key)
 
 unfoldable pub direction : Form Bool
-direction = Made (λ v. false) (word (codes "ASC")) / Made (λ v. true) (word (codes "DESC"))
+direction = Made (λ v. false) (word (codes "ASC")) ⊕ Made (λ v. true) (word (codes "DESC"))
 
 abbrev pub order_of : List ℕ × Bool → ColumnOrder
 order_of v = record { column = v.0; is_descending = v.1 }
@@ -254,7 +254,7 @@ abbrev pub named_option : List ℕ → Literal → TableOption
 named_option name value = options.Named (record { name = name; value = value })
 
 unfoldable pub option_value : Form Literal
-option_value = symbol kinds.Equal ▹ (integer / string)
+option_value = symbol kinds.Equal ▹ (integer ⊕ string)
 
 -- what stands behind CLUSTERING: where a value does, it is an option's name
 abbrev pub clustering_of : List ℕ × (List ColumnOrder ⊎ Literal) → TableOption
@@ -265,8 +265,8 @@ option_of v = named_option v.0 v.1
 
 unfoldable pub table_option : Form TableOption
 table_option =
-    Made clustering_of (word_as_name (codes "CLUSTERING") & (Made (λ v. inl v) clustering_order / Made (λ v. inr v) option_value))
-    / Made option_of (other_name (codes "CLUSTERING") & option_value)
+    Made clustering_of (word_as_name (codes "CLUSTERING") & (Made (λ v. inl v) clustering_order ⊕ Made (λ v. inr v) option_value))
+    ⊕ Made option_of (other_name (codes "CLUSTERING") & option_value)
 
 abbrev pub create_table_of : Bool × (TableName × (List TableItem × List TableOption)) → CreateTable
 create_table_of v = record { if_not_exists = v.0; table = v.1.0; items = v.1.1.0; options = v.1.1.1 }
@@ -282,7 +282,7 @@ abbrev pub create : Form Statement
 create =
     word (codes "CREATE")
     ▹ (Made (λ v. statements.CreateKeyspace v) (word (codes "KEYSPACE") ▹ keyspace_body)
-    / Made (λ v. statements.CreateTable v) (word (codes "TABLE") ▹ table_body))
+    ⊕ Made (λ v. statements.CreateTable v) (word (codes "TABLE") ▹ table_body))
 
 abbrev pub use_of : List ℕ → Use
 use_of v = record { keyspace = v }
@@ -347,13 +347,13 @@ columns_of v = selections.Columns (v.0 ∷ v.1)
 unfoldable pub selection : Form Selection
 selection =
     Made (λ v. selections.All) (symbol kinds.Star)
-    / Made counted_of
-    (word_as_name (codes "COUNT") & (Made (λ v. None) (parenthesized (symbol kinds.Star)) / Made (λ v. Some v) more_names))
-    / Made columns_of (other_name (codes "COUNT") & more_names)
+    ⊕ Made counted_of
+    (word_as_name (codes "COUNT") & (Made (λ v. None) (parenthesized (symbol kinds.Star)) ⊕ Made (λ v. Some v) more_names))
+    ⊕ Made columns_of (other_name (codes "COUNT") & more_names)
 
 -- name [ASC | DESC]
 unfoldable pub order : Form ColumnOrder
-order = Made order_of (name & (direction / Made (λ v. false) Nothing))
+order = Made order_of (name & (direction ⊕ Made (λ v. false) Nothing))
 
 abbrev pub select_of : Selection × (TableName × (List Relation × (List ColumnOrder × Option Term))) → Select
 select_of v = record { selection = v.0; table = v.1.0; relations = v.1.1.0; orders = v.1.1.1.0; limit = v.1.1.1.1 }
@@ -375,8 +375,8 @@ semicolon = optional (symbol kinds.Semicolon)
 abbrev pub modification : Form Modification
 modification =
     Made (λ v. modifications.Insert v) insert
-    / Made (λ v. modifications.Update v) update
-    / Made (λ v. modifications.Delete v) delete
+    ⊕ Made (λ v. modifications.Update v) update
+    ⊕ Made (λ v. modifications.Delete v) delete
 
 abbrev pub batch_of : Bool × (Option Stamp × List Modification) → Batch
 batch_of v = record { is_unlogged = v.0; stamp = v.1.0; statements = v.1.1 }
@@ -395,12 +395,12 @@ batch = word (codes "BEGIN") ▹ batch_body
 unfoldable pub statement_body : Form Statement
 statement_body =
     create
-    / Made (λ v. statements.Use v) use_keyspace
-    / Made (λ v. statements.Insert v) insert
-    / Made (λ v. statements.Update v) update
-    / Made (λ v. statements.Delete v) delete
-    / Made (λ v. statements.Select v) select
-    / Made (λ v. statements.Batch v) batch
+    ⊕ Made (λ v. statements.Use v) use_keyspace
+    ⊕ Made (λ v. statements.Insert v) insert
+    ⊕ Made (λ v. statements.Update v) update
+    ⊕ Made (λ v. statements.Delete v) delete
+    ⊕ Made (λ v. statements.Select v) select
+    ⊕ Made (λ v. statements.Batch v) batch
 
 unfoldable pub statement : Form Statement
 statement = statement_body ◃ semicolon
