@@ -1,6 +1,9 @@
 //! A parser of CQL statements in plain Rust, by recursive descent over a list of tokens, and the same measurement as
 //! `crates/cql_parser_bench`: `plain ROUNDS`.
 
+// What is read is counted, and not looked into.
+#![allow(dead_code)]
+
 use std::hint::black_box;
 use std::time::Instant;
 
