@@ -28,12 +28,14 @@ const SOUND: Outside<'static> = Outside {
 
 fn run(
     alloc: Global,
-    word: &str,
+    command: &str,
     script: &str,
     outside: &Outside<'_>,
 ) -> Result<Ended, AllocError> {
     let mut words = Vec::new(alloc);
-    words.push(String::from_str(alloc, word)?)?;
+    for word in command.split(' ') {
+        words.push(String::from_str(alloc, word)?)?;
+    }
     let mut source = MemSource::new(
         Vec::from_slice(alloc, script.as_bytes())?,
         outside.most,
@@ -170,6 +172,7 @@ fn tells_faults_apart(rt: HostRuntime) -> Result<(), Fail> {
     let script = behind_head(rt.alloc(), "put 0 ONE k a 5 x\n")?;
     let cases = [
         ("scripts", SOUND, Status::Usage, "usage: script\n"),
+        ("script now", SOUND, Status::Usage, "usage: script\n"),
         (
             "script",
             Outside {
