@@ -1,11 +1,13 @@
 -- The columns of a table, in the order in which it keeps them.
-use Rattle.std.specs.Prelude.{ℕ, ◌||◌, if◌then◌else◌, Bool, false, List, [], ◌∷◌, ◌++◌, Option, None, Some, flat_map, fold}
+use Rattle.std.specs.Prelude.{◌≡◌, ℕ, ◌||◌, if◌then◌else◌, Bool, false, List, [], ◌∷◌, ◌++◌, Option, None, Some, flat_map, fold, position}
 use Rattle.std.specs.Map.{values_of}
-use Rattle.std.specs.BTreeMap.{insert_entry}
+use Rattle.std.specs.BTreeMap.{insert_entry, get_by_text}
+use Rattle.std.specs.Str.{bytes_eq}
 use Rattle.std.specs.Ordering.{nat_cmp}
 use Rattle.std.specs.Cmp.Lexicographic.{slice_cmp}
 use Rattle.cql_statement.specs.declared.schema.ColumnItem.{ColumnItem}
 use Rattle.cql_statement.specs.declared.schema.TableOption.{TableOption}
+use Rattle.schema_book.specs.declared.index.Names.{Names}
 use Rattle.schema_book.specs.declared.table.ColumnDef.{ColumnDef}
 use Rattle.schema_book.specs.declared.table.ColumnKind.{ColumnKind}
 use Rattle.schema_book.specs.declared.table.ColumnKind.TheVariants.{Partition, Clustering, Regular}
@@ -51,3 +53,11 @@ sorted_others o = fold (with_other o) [] o.columns
 -- the columns of the partition key, the clustering columns, and the others by name
 abbrev pub defs_of : List TableOption → Outline → List ColumnDef
 defs_of options o = partition_defs o ++ (clustering_defs options o ++ values_of (sorted_others o))
+
+-- the place of the first column of this name
+abbrev pub column_place : List ColumnDef → List ℕ → Option ℕ
+column_place columns name = position (λ d. bytes_eq d.name name) columns
+
+-- the map has each name's place
+abbrev pub ArePlacesOf : List ColumnDef → Names → Type 0
+ArePlacesOf columns names = (name : List ℕ) → get_by_text names.places name ≡ column_place columns name

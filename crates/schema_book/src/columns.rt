@@ -4,10 +4,11 @@ ghost use Rattle.std.specs.Prelude.{◌≡◌, ◌++◌, false, IfOk, OnOk};
 ghost use Rattle.std.specs.Map.{values_of};
 ghost use Rattle.schema_book.specs.Columns.{def_of as def_of_column, partition_def, partition_defs, clustering_item, clustering_def, clustering_defs, is_of_key as is_of_key_of, with_other, sorted_others as sorted_others_of, defs_of as defs_of_outline};
 
+use crate::column_defs::ColumnDefs;
 use crate::names::is_among;
 use crate::options::falls_in;
 use crate::outline::{Outline, column_in};
-use crate::table::{ColumnDef, ColumnDefs, ColumnKind};
+use crate::table::{ColumnDef, ColumnKind};
 use cql_statement::{ColumnItem, TableOption};
 use cs_base::{Bytes, Items, Text};
 use std::alloc::{AllocError, Global};
@@ -31,7 +32,7 @@ fn def_of(
 
 /// Adds the column of this name, if there is one, as one of the partition key.
 fn add_partition_def(
-    defs: &mut ColumnDefs,
+    defs: &mut Items<ColumnDef>,
     alloc: Global,
     columns: &[ColumnItem],
     name: &Text,
@@ -44,7 +45,7 @@ fn add_partition_def(
     Ok(())
 }
 
-fn partition_defs_of(alloc: Global, outline: &Outline) -> Result<ColumnDefs, AllocError>
+fn partition_defs_of(alloc: Global, outline: &Outline) -> Result<Items<ColumnDef>, AllocError>
     ensures { IfOk result (λ defs. defs ≡ partition_defs outline.now) }
 {
     let mut defs = Items::new(alloc);
@@ -67,7 +68,7 @@ fn clustering_item_of(
 
 /// Adds the column of this name, if there is one, as a clustering column.
 fn add_clustering_def(
-    defs: &mut ColumnDefs,
+    defs: &mut Items<ColumnDef>,
     alloc: Global,
     options: &[TableOption],
     columns: &[ColumnItem],
@@ -83,11 +84,11 @@ fn add_clustering_def(
 
 /// These columns, and then the clustering columns.
 fn with_clustering(
-    mut defs: ColumnDefs,
+    mut defs: Items<ColumnDef>,
     alloc: Global,
     options: &[TableOption],
     outline: &Outline,
-) -> Result<ColumnDefs, AllocError>
+) -> Result<Items<ColumnDef>, AllocError>
     ensures { IfOk result (λ all. all ≡ defs ++ clustering_defs options.now outline.now) }
 {
     for name in outline.clustering() {
@@ -132,9 +133,9 @@ fn sorted_others(alloc: Global, outline: &Outline) -> Result<BTreeMap<Bytes, Col
 
 /// These columns, and then those by name.
 fn with_others(
-    mut defs: ColumnDefs,
+    mut defs: Items<ColumnDef>,
     others: BTreeMap<Bytes, ColumnDef>,
-) -> Result<ColumnDefs, AllocError>
+) -> Result<Items<ColumnDef>, AllocError>
     ensures { IfOk result (λ all. all ≡ defs ++ values_of others.entries) }
 {
     for def in others.into_values() {
@@ -153,5 +154,5 @@ pub(crate) fn defs_of(
 {
     let defs = partition_defs_of(alloc, outline)?;
     let defs = with_clustering(defs, alloc, options, outline)?;
-    with_others(defs, sorted_others(alloc, outline)?)
+    ColumnDefs::of(alloc, with_others(defs, sorted_others(alloc, outline)?)?)
 }

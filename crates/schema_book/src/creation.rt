@@ -4,11 +4,12 @@ ghost use Rattle.std.specs.Prelude.{◌≡◌, IfOk, false};
 ghost use Rattle.cql_values.specs.declared.value.CqlType.TheVariants as types;
 ghost use Rattle.schema_book.specs.Books.{existing as existing_of, key_fault as key_fault_of, size_fault as size_fault_of, option_fault as option_fault_of, table_of as table_of_statement, script_columns as script_columns_of, script_table as script_table_of, script_keyspace as script_keyspace_of};
 
+use crate::column_defs::ColumnDefs;
 use crate::columns::defs_of;
 use crate::error::Fault;
 use crate::options::{grace_in, has_bad_option};
 use crate::outline::{Outline, defines_twice, has_uuid, some_twice, some_unknown};
-use crate::table::{ColumnDef, ColumnDefs, ColumnKind, Keyspace, Table};
+use crate::table::{ColumnDef, ColumnKind, Keyspace, Table};
 use cql_statement::CreateTable;
 use cql_values::CqlType;
 use cs_base::{Items, Text};
@@ -108,7 +109,7 @@ fn script_columns(alloc: Global) -> Result<ColumnDefs, AllocError>
     defs.push(text_column(alloc, "k", ColumnKind::Partition)?)?;
     defs.push(text_column(alloc, "c", ColumnKind::Clustering)?)?;
     defs.push(text_column(alloc, "v", ColumnKind::Regular)?)?;
-    Ok(defs)
+    ColumnDefs::of(alloc, defs)
 }
 
 /// The table that every schema holds.

@@ -1,6 +1,7 @@
 //! Where tables stand, by keyspace and name.
 
 ghost use Rattle.std.specs.Prelude.{◌≡◌, IfOk, OnOk, option_copied};
+ghost use Rattle.std.specs.BTreeMap.{get_by_text};
 ghost use Rattle.schema_book.specs.Places.{Enters, EntersTable, IsIndexOf, TakesOut, place_of};
 
 use crate::table::Table;
@@ -8,8 +9,8 @@ use cs_base::Text;
 use std::alloc::{AllocError, Global};
 use std::collections::BTreeMap;
 
-/// The places of a keyspace's tables, by name.
-#[derive(Drop)]
+/// The places of a keyspace's tables, or of a table's columns, by name.
+#[derive(Debug, Drop)]
 pub(crate) struct Names {
     pub places: BTreeMap<String, usize>,
 }
@@ -22,7 +23,12 @@ pub(crate) struct Index {
 
 impl Names {
     /// Adds the place of a name, unless it has one.
-    fn enter(mut self, alloc: Global, name: &Text, place: usize) -> Result<Names, AllocError>
+    pub(crate) fn enter(
+        mut self,
+        alloc: Global,
+        name: &Text,
+        place: usize,
+    ) -> Result<Names, AllocError>
         ensures { IfOk result (Enters self name.now place) }
     {
         if self.places.contains_key(name.as_str()) {
@@ -31,6 +37,13 @@ impl Names {
         self.places
             .insert(String::from_str(alloc, name.as_str())?, place)?;
         Ok(self)
+    }
+
+    /// The place of a name.
+    pub(crate) fn place(&self, name: &str) -> Option<usize>
+        ensures { result ≡ get_by_text self.now.places name.now }
+    {
+        self.places.get(name).copied()
     }
 }
 
@@ -78,7 +91,7 @@ impl Index {
         ensures { result ≡ place_of self.now keyspace.now name.now }
     {
         match self.keyspaces.get(keyspace) {
-            Some(names) => names.places.get(name).copied(),
+            Some(names) => names.place(name),
             None => None,
         }
     }

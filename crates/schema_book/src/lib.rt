@@ -1,6 +1,7 @@
 //! The keyspaces and tables that a list of CQL statements makes.
 #![tactic(auto)]
 
+mod column_defs;
 mod columns;
 mod creation;
 mod draft;
@@ -16,10 +17,11 @@ mod table;
 #[cfg(test)]
 mod tests;
 
+pub use column_defs::ColumnDefs;
 pub use error::{Fault, Refused, SchemaError};
 pub use laws::{
     columns_are_few, columns_are_in_order, refusals_are_first, tables_are_few, tables_are_found,
     tables_are_numbered,
 };
 pub use schema::Schema;
-pub use table::{ColumnDef, ColumnDefs, ColumnKind, Keyspace, Table};
+pub use table::{ColumnDef, ColumnKind, Keyspace, Table};

@@ -1,7 +1,8 @@
 //! Keyspaces, tables and columns.
 
+use crate::column_defs::ColumnDefs;
 use cql_values::CqlType;
-use cs_base::{Items, Text};
+use cs_base::Text;
 
 /// What a column is for.
 #[derive(Clone, Copy, Debug, PartialEq, Eq)]
@@ -22,8 +23,6 @@ pub struct ColumnDef {
     /// Whether rows stand by falling values of it. It is so of clustering columns alone.
     pub is_descending: bool,
 }
-
-pub type ColumnDefs = Items<ColumnDef>;
 
 /// A table. Its columns are those of the partition key, then the clustering columns, then the others by name.
 #[derive(Debug, Drop)]

@@ -359,6 +359,18 @@ fn a_table_is_always_there(rt: HostRuntime) -> Result<(), Fail> {
     Ok(())
 }
 
+#[test]
+fn columns_are_found(rt: HostRuntime) -> Result<(), Fail> {
+    let alloc = rt.alloc();
+    let made = schema(alloc, &with_table(alloc, create(alloc, PLAIN)?)?)?;
+    let table = made.table("ks", "t").ok_or("no such table")?;
+    assert_eq!(rt; table.columns.place("k"), Some(0));
+    assert_eq!(rt; table.columns.place("b"), Some(2));
+    assert_eq!(rt; table.columns.place("z"), Some(4));
+    assert!(rt; table.columns.place("y").is_none());
+    Ok(())
+}
+
 /// A table with so many columns besides its key.
 fn wide(alloc: Global, others: usize) -> Result<CreateTable, AllocError> {
     let mut create = create(alloc, PLAIN)?;
@@ -378,5 +390,17 @@ fn columns_are_counted(rt: HostRuntime) -> Result<(), Fail> {
     assert!(rt; schema(alloc, &most).is_ok());
     let more = with_table(alloc, wide(alloc, 256)?)?;
     assert!(rt; is_refused(alloc, &more, 1, Fault::TooManyColumns));
+    Ok(())
+}
+
+#[test]
+fn refusals_are_printed(rt: HostRuntime) -> Result<(), Fail> {
+    let error = SchemaError::Refused(Refused {
+        statement: 3,
+        fault: Fault::NoKeyspace,
+    });
+    let text = format!(in rt.alloc(); "{error}")?;
+    let want = "statement 3: the keyspace is not named, or does not exist";
+    assert_eq!(rt; text.as_str(), want);
     Ok(())
 }
