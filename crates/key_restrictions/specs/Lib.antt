@@ -1,0 +1,5 @@
+pub mod Operators
+pub mod Places
+pub mod Checks
+pub mod Rows
+pub mod Laws

@@ -1,0 +1,4 @@
+mod SignLaws
+mod PlaceLaws
+mod RunLaws
+mod KeptLaws

@@ -1,0 +1,11 @@
+//! The changes that a statement asks for, as one mutation: one change of each place, in the order of places, and their size.
+#![tactic(auto)]
+
+mod keeping;
+mod length;
+mod order;
+#[cfg(test)]
+mod tests;
+
+pub use keeping::kept;
+pub use length::is_long;
