@@ -1,0 +1,4 @@
+pub mod Changing
+pub mod Names
+pub mod Resolved
+pub mod Faults
