@@ -1,0 +1,10 @@
+//! The state behind a page of a read.
+#![tactic(auto)]
+
+mod laws;
+mod state;
+#[cfg(test)]
+mod tests;
+
+pub use laws::reading_undoes_writing;
+pub use state::{PagingError, read_paging, write_paging};

@@ -1,0 +1,59 @@
+//! States written and read, and bytes that are none, at their limits.
+
+use crate::{PagingError, read_paging, write_paging};
+use cs_base::Bytes;
+use std::alloc::{AllocError, Global};
+use std::test::Fail;
+
+fn row_of(alloc: Global, length: usize) -> Result<Bytes, AllocError> {
+    let mut row = Vec::new(alloc);
+    row.resize(length, 7)?;
+    Ok(Bytes::from_vec(row))
+}
+
+fn is_read_back(alloc: Global, row: &Bytes) -> Result<bool, PagingError> {
+    let state = write_paging(alloc, row)?;
+    Ok(read_paging(alloc, state.as_slice())? == *row)
+}
+
+fn is_bad(alloc: Global, bytes: &[u8]) -> bool {
+    matches!(read_paging(alloc, bytes), Err(PagingError::BadPaging))
+}
+
+#[test]
+fn state_is_a_one_and_the_row(rt: HostRuntime) -> Result<(), Fail> {
+    let alloc = rt.alloc();
+    let row = Bytes::from_slice(alloc, b"\x80k\x00")?;
+    let state = write_paging(alloc, &row)?;
+    assert_eq!(rt; state.as_slice(), b"\x01\x80k\x00".as_slice());
+    assert_eq!(rt; read_paging(alloc, state.as_slice())?, row);
+    Ok(())
+}
+
+#[test]
+fn rows_of_up_to_65535_bytes_are_read_back(rt: HostRuntime) -> Result<(), Fail> {
+    let alloc = rt.alloc();
+    for length in [0, 1, 65_534, 65_535] {
+        assert!(rt; is_read_back(alloc, &row_of(alloc, length)?)?);
+    }
+    Ok(())
+}
+
+#[test]
+fn state_of_a_longer_row_is_bad(rt: HostRuntime) -> Result<(), Fail> {
+    let alloc = rt.alloc();
+    let state = write_paging(alloc, &row_of(alloc, 65_536)?)?;
+    assert_eq!(rt; state.as_slice().len(), 65_537);
+    assert!(rt; is_bad(alloc, state.as_slice()));
+    Ok(())
+}
+
+#[test]
+fn other_bytes_are_bad(rt: HostRuntime) -> Result<(), Fail> {
+    let alloc = rt.alloc();
+    for bytes in ["", "\x00", "\x02", "\x02\x01", "k", "k\x01"] {
+        assert!(rt; is_bad(alloc, bytes.as_bytes()));
+    }
+    assert!(rt; is_bad(alloc, &[0xff, 1]));
+    Ok(())
+}
