@@ -1,3 +1,5 @@
 pub mod CellLaws
+pub mod Groups
+pub mod PageLaws
 pub mod RowLaws
 pub mod SelectLaws

@@ -1,11 +1,12 @@
 -- The rows that are found between two bounds are those that the content shows there.
-use Rattle.std.proofs.Common.{◌≡◌, ℕ, ◌⊎◌, ◌↔◌, inl, inr, Bool, true, false, if◌then◌else◌, List, [], ◌∷◌, ◌++◌, Option, Some, None, refl, sym, ◌∙◌, ap, subst, Contains}
+use Rattle.std.proofs.Common.{◌≡◌, ℕ, ◌⊎◌, ◌↔◌, inl, inr, Bool, true, false, if◌then◌else◌, List, [], ◌∷◌, ◌++◌, Option, Some, None, refl, sym, ◌∙◌, ap, subst, length, nat_lt, Contains}
 use Rattle.std.specs.List.{filter_map, list_any, AllByRecursion}
 use Rattle.std.specs.List.Sorted.{IsStrictlySortedBy}
 use Rattle.std.specs.Map.{keys_of}
 use Rattle.std.specs.Ordering.{nat_cmp, ordering_reverse}
 use Rattle.std.specs.declared.cmp.Ordering.TheVariants.{Less}
 use Rattle.std.proofs.lemmas.Bool.{cases_Bool, both_ways}
+use Rattle.std.proofs.lemmas.List.{length-reverse}
 use Rattle.std.proofs.lemmas.List.Elements.{All-from_recursion, All-contains}
 use Rattle.changes.specs.declared.Place.{Place}
 use Rattle.changes.specs.declared.Place.TheVariants.{Cell, Marker, RowGone, RangeGone, PartGone}
@@ -15,13 +16,15 @@ use Rattle.changes.specs.declared.ShownRow.{ShownRow}
 use Rattle.changes.specs.declared.ShownCell.{ShownCell}
 use Rattle.changes.specs.Order.{rank_cmp, row_of, IsBetween}
 use Rattle.changes.specs.Contents.{AreApart}
-use Rattle.changes.specs.Shown.{IsTop, ShowsCell, ShowsRow, row_cmp, rows_of, columns_of, AreShownCells, AreShownRows}
+use Rattle.changes.specs.Shown.{IsTop, ShowsCell, ShowsRow, row_cmp, rows_of, columns_of, AreShownCells, AreShownRows, in_order, IsShown}
 use Rattle.change_laws.proofs.SignLaws.{cases_ordering}
 use Rattle.change_laws.proofs.OrderLaws.{rank_value, rank_total}
 use Rattle.change_laws.proofs.Members.{contains_nil, contains_here, contains_there, contains_cases, contains_filter_map, contains_from_filter_map, contains_map, contains_from_map}
 use Rattle.cell_merge.specs.Walks.{names_of, IsGroupOf, AreRowsBetween}
 use Rattle.cell_merge.proofs.StateLaws.{some_passes, none_passes}
-use Rattle.row_select.specs.Rows.{is_sign, is_sign_of_row, cell_of, cell_of_held, AreSingleGroups, AreCellsOf, IsRowOf, pairs_of, names_with}
+use Rattle.row_select.specs.Rows.{is_sign, is_sign_of_row, cell_of, cell_of_held, rows_with, IsPageOf}
+use Rattle.row_select.proofs.Groups.{AreSingleGroups, AreCellsOf, IsRowOf, pairs_of, names_with}
+use Rattle.row_select.proofs.RowLaws.{names_are, rows_are}
 
 -- nothing outranks what is held
 pub held_is_top : (K : List Held) → AreApart K → (x : Held) → Contains K x → IsTop (Contains K) x
@@ -70,7 +73,7 @@ apart_values K apart x y hx hy place =
       | inr (inr greater) ↦ absurd (apart x y hx hy (inl (place, greater)))
     ]
 
-pub single_groups : (q : Query) (K : List Held) (groups : List (List ℕ × List Held)) → AreApart K → AreRowsBetween q.from q.upto K groups → AreSingleGroups groups
+single_groups : (q : Query) (K : List Held) (groups : List (List ℕ × List Held)) → AreApart K → AreRowsBetween q.from q.upto K groups → AreSingleGroups groups
 single_groups q K groups apart are g at x y column v w hx hy ex ey =
     let of_g = (are.within g at).2 in
     let px = (of_g x).0 hx in
@@ -215,7 +218,7 @@ cells_shown K row changes cells apart of_row are = record {
   );
 }
 
-pub rows_shown : (q : Query) (K : List Held) (groups : List (List ℕ × List Held)) (rows : List ShownRow) → AreApart K → AreRowsBetween q.from q.upto K groups
+rows_shown : (q : Query) (K : List Held) (groups : List (List ℕ × List Held)) (rows : List ShownRow) → AreApart K → AreRowsBetween q.from q.upto K groups
     → rows_of rows ≡ names_with groups → AllByRecursion (IsRowOf groups) rows → AreShownRows (Contains K) q rows
 rows_shown q K groups rows apart are names cells = record {
   sorted = subst (λ (ns : List (List ℕ)). IsStrictlySortedBy row_cmp ns) (sym names) (sorted_names groups are.sorted);
@@ -227,3 +230,14 @@ rows_shown q K groups rows apart are names cells = record {
       let made = All-contains (IsRowOf groups) rows r (All-from_recursion (IsRowOf groups) rows cells) k in
       cells_shown K r.row made.0 r.cells apart (are.within (r.row, made.0) made.1).2 made.2;
 }
+
+same_length : (reversed : Bool) (rows : List ShownRow) → length (in_order reversed rows) ≡ length rows
+same_length false rows = refl
+same_length true rows = length-reverse rows
+
+-- what a page of all these rows shows
+pub page_shown : (q : Query) (K : List Held) (groups : List (List ℕ × List Held)) (rows : List ShownRow) (more : Bool) → AreApart K → AreRowsBetween q.from q.upto K groups
+    → IsPageOf q.limit (in_order q.reversed (rows_with groups)) rows more → IsShown (Contains K) q rows more
+page_shown q K groups rows more apart are is =
+    let all = rows_with groups in
+    (all, rows_shown q K groups all apart are (names_are groups) (rows_are groups (single_groups q K groups apart are)), is.0, is.1 ∙ ap (nat_lt q.limit) (same_length q.reversed all))

@@ -1,8 +1,7 @@
--- What the changes of one row show, part by part.
-use Rattle.std.specs.Prelude.{◌≡◌, ℕ, Bool, true, false, Option, Some, None, List, [], ◌∷◌, ◌++◌, map, Contains, ◌↔◌, if◌then◌else◌}
-use Rattle.std.specs.List.{filter_map, list_any}
-use Rattle.std.specs.List.Sorted.{IsStrictlySortedBy}
-use Rattle.std.specs.Map.{keys_of}
+-- What the changes of a row show of it, and what the rows of a walk show up to a limit.
+use Rattle.std.specs.Prelude.{◌≡◌, ℕ, Bool, true, false, Option, Some, None, List, [], ◌∷◌, ◌++◌, map, length, take, nat_lt, if◌then◌else◌}
+use Rattle.std.specs.List.{list_any, fold}
+use Rattle.std.specs.BTreeMap.{insert_entry}
 use Rattle.std.specs.Ordering.{nat_cmp}
 use Rattle.changes.specs.declared.Place.{Place}
 use Rattle.changes.specs.declared.Place.TheVariants.{Cell, Marker, RowGone, RangeGone, PartGone}
@@ -34,30 +33,37 @@ cell_of PartGone value = None
 abbrev pub cell_of_held : Held → Option (ℕ × List ℕ)
 cell_of_held x = cell_of x.place x.value
 
--- a column has one value among these changes
-abbrev pub AreSingle : List Held → Type 0
-AreSingle changes = (x y : Held) (column : ℕ) (v w : List ℕ) → Contains changes x → Contains changes y → cell_of_held x ≡ Some (column, v) → cell_of_held y ≡ Some (column, w) → v ≡ w
+-- cells by column, with one more in its place; an earlier one of its column gives way
+abbrev pub put_cell : List (ℕ × List ℕ) → Option (ℕ × List ℕ) → List (ℕ × List ℕ)
+put_cell cells None = cells
+put_cell cells (Some c) = insert_entry nat_cmp cells c.0 c.1
 
-abbrev pub AreSingleGroups : List (List ℕ × List Held) → Type 0
-AreSingleGroups groups = (g : List ℕ × List Held) → Contains groups g → AreSingle g.1
-
-abbrev pub pairs_of : List ShownCell → List (ℕ × List ℕ)
-pairs_of cells = map (λ c. (c.column, c.value)) cells
+abbrev pub with_cell : List (ℕ × List ℕ) → Held → List (ℕ × List ℕ)
+with_cell cells x = put_cell cells (cell_of_held x)
 
 -- the cells that these changes of a row show, by column
-pub record AreCellsOf (changes : List Held) (cells : List ShownCell) : Type 0 where
-  pub sorted : IsStrictlySortedBy nat_cmp (keys_of (pairs_of cells))
-  pub each : (column : ℕ) (value : List ℕ) → Contains {X = ℕ × List ℕ} (pairs_of cells) (column, value) ↔ Contains {X = ℕ × List ℕ} (filter_map cell_of_held changes) (column, value)
+abbrev pub cells_by_column : List Held → List (ℕ × List ℕ)
+cells_by_column changes = fold with_cell [] changes
 
--- the row has the cells that its changes show
-abbrev pub IsRowOf : List (List ℕ × List Held) → ShownRow → Type 0
-IsRowOf groups r = (changes : List Held) × Contains {X = List ℕ × List Held} groups (r.row, changes) × AreCellsOf changes r.cells
+abbrev pub cell_made : ℕ × List ℕ → ShownCell
+cell_made c = record { column = c.0; value = c.1 }
 
--- the row's name, if its changes show it
-abbrev pub name_if : List ℕ → List Held → List (List ℕ)
-name_if row changes = if list_any is_sign_of_row changes then row ∷ [] else []
+abbrev pub cells_made : List (ℕ × List ℕ) → List ShownCell
+cells_made cells = map cell_made cells
 
--- the names of the rows that are shown
-abbrev pub names_with : List (List ℕ × List Held) → List (List ℕ)
-names_with [] = []
-names_with (g ∷ groups) = name_if g.0 g.1 ++ names_with groups
+-- the row as these changes of it show it
+abbrev pub row_shown : List ℕ → List Held → ShownRow
+row_shown row changes = record { row = row; cells = cells_made (cells_by_column changes) }
+
+-- the row, if its changes show it
+abbrev pub row_if : List ℕ → List Held → List ShownRow
+row_if row changes = if list_any is_sign_of_row changes then row_shown row changes ∷ [] else []
+
+-- the rows that are shown
+abbrev pub rows_with : List (List ℕ × List Held) → List ShownRow
+rows_with [] = []
+rows_with (g ∷ groups) = row_if g.0 g.1 ++ rows_with groups
+
+-- the first of all rows, up to the limit, and whether a further one follows
+abbrev pub IsPageOf : ℕ → List ShownRow → List ShownRow → Bool → Type 0
+IsPageOf limit all rows more = (rows ≡ take limit all) × (more ≡ nat_lt limit (length all))

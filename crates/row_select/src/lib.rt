@@ -1,6 +1,7 @@
 //! The rows that a query shows of a content.
 #![tactic(auto)]
 
+mod page;
 mod rows;
 mod select;
 #[cfg(test)]

@@ -1,21 +1,14 @@
-//! The rows of a walk that are shown, each with its cells.
+//! A row as it is shown, with its cells.
 
-ghost use Rattle.std.specs.Prelude.{◌≡◌, ◌↔◌, ◌⊎◌, ◌++◌, ℕ, List, Some, IfOk, OnOk, Contains};
-ghost use Rattle.std.specs.List.{filter_map, list_any, AllByRecursion};
-ghost use Rattle.std.specs.Map.{keys_of};
-ghost use Rattle.std.specs.List.Sorted.{IsStrictlySortedBy};
+ghost use Rattle.std.specs.Prelude.{◌≡◌, IfOk, OnOk};
+ghost use Rattle.std.specs.List.{list_any};
 ghost use Rattle.std.specs.Option.{option_map};
-ghost use Rattle.std.specs.Ordering.{nat_cmp};
-ghost use Rattle.changes.specs.declared.Held.{Held as held_value};
-ghost use Rattle.changes.specs.Shown.{rows_of};
-ghost use Rattle.cell_merge.specs.Rows.{shown_of};
-ghost use Rattle.row_select.specs.Rows.{is_sign_of_row, cell_of_held, AreSingle, AreSingleGroups, AreCellsOf, IsRowOf, pairs_of, names_with, name_if};
+ghost use Rattle.row_select.specs.Rows.{is_sign_of_row, cell_of_held, with_cell, cells_by_column, cells_made, row_shown};
 
 use changes::{Held, Place, ShownCell, ShownRow};
 use cs_base::{Bytes, Items};
 use std::alloc::{AllocError, Global};
 use std::collections::BTreeMap;
-use std::collections::btree_map::Range;
 
 /// Whether a row with this change is shown: a marker or a cell with a value.
 fn is_sign(held: &Held) -> bool
@@ -29,7 +22,7 @@ fn is_sign(held: &Held) -> bool
 }
 
 /// Whether a row with these changes is shown.
-fn has_sign(changes: &[Held]) -> bool
+pub(crate) fn has_sign(changes: &[Held]) -> bool
     ensures { result ≡ list_any is_sign_of_row changes.now }
 {
     changes.iter().any(|held| is_sign(held))
@@ -45,9 +38,9 @@ fn cell_shown(held: &Held) -> Option<(u8, &Bytes)>
     }
 }
 
+/// Puts in the cell that a change shows, if it shows one.
 fn add_cell(alloc: Global, cells: &mut BTreeMap<u8, Bytes>, held: &Held) -> Result<(), AllocError>
-    requires { (column : ℕ) (value other : List ℕ) → Contains cells.old.entries (column, value) → cell_of_held held.now ≡ Some (column, other) → value ≡ other }
-    ensures { OnOk result ((column : ℕ) (value : List ℕ) → Contains cells.new.entries (column, value) ↔ (Contains cells.old.entries (column, value) ⊎ (cell_of_held held.now ≡ Some (column, value)))) }
+    ensures { OnOk result (cells.new.entries ≡ with_cell cells.old.entries held.now) }
 {
     let Some((column, value)) = cell_shown(held) else {
         return Ok(());
@@ -56,9 +49,9 @@ fn add_cell(alloc: Global, cells: &mut BTreeMap<u8, Bytes>, held: &Held) -> Resu
     Ok(())
 }
 
+/// The cells that the changes show, by column.
 fn cell_map(alloc: Global, changes: &[Held]) -> Result<BTreeMap<u8, Bytes>, AllocError>
-    requires { AreSingle changes.now }
-    ensures { IfOk result (λ cells. (column : ℕ) (value : List ℕ) → Contains cells.entries (column, value) ↔ Contains (filter_map cell_of_held changes.now) (column, value)) }
+    ensures { IfOk result (λ cells. cells.entries ≡ cells_by_column changes.now) }
 {
     let mut cells = BTreeMap::new(alloc);
     for held in changes {
@@ -67,10 +60,9 @@ fn cell_map(alloc: Global, changes: &[Held]) -> Result<BTreeMap<u8, Bytes>, Allo
     Ok(cells)
 }
 
-/// The cells by column.
+/// The cells of a map, in its order.
 fn list_cells(alloc: Global, map: BTreeMap<u8, Bytes>) -> Result<Items<ShownCell>, AllocError>
-    ensures entries { IfOk result (λ cells. pairs_of cells ≡ map.entries) }
-    ensures sorted { IfOk result (λ cells. IsStrictlySortedBy nat_cmp (keys_of map.entries)) }
+    ensures { IfOk result (λ cells. cells ≡ cells_made map.entries) }
 {
     let mut cells = Items::new(alloc);
     for (column, value) in map {
@@ -79,57 +71,13 @@ fn list_cells(alloc: Global, map: BTreeMap<u8, Bytes>) -> Result<Items<ShownCell
     Ok(cells)
 }
 
-/// The cells that the changes of a row show, by column.
-fn cells_of(alloc: Global, changes: &[Held]) -> Result<Items<ShownCell>, AllocError>
-    requires { AreSingle changes.now }
-    ensures { IfOk result (λ cells. AreCellsOf changes.now cells) }
-{
-    list_cells(alloc, cell_map(alloc, changes)?)
-}
-
 /// A row as it is shown.
-fn row_of(alloc: Global, row: &Bytes, changes: &[Held]) -> Result<ShownRow, AllocError>
-    requires { AreSingle changes.now }
-    ensures row { IfOk result (λ shown. shown.row ≡ row.now) }
-    ensures cells { IfOk result (λ shown. AreCellsOf changes.now shown.cells) }
+pub(crate) fn row_of(alloc: Global, row: &Bytes, changes: &[Held]) -> Result<ShownRow, AllocError>
+    ensures { IfOk result (λ shown. shown ≡ row_shown row.now changes.now) }
 {
-    let cells = cells_of(alloc, changes)?;
+    let cells = list_cells(alloc, cell_map(alloc, changes)?)?;
     Ok(ShownRow {
         row: row.copy(alloc)?,
         cells,
     })
-}
-
-/// Puts the row behind the others, if it is shown.
-fn add_row(
-    alloc: Global,
-    rows: &mut Vec<ShownRow>,
-    row: &Bytes,
-    changes: &[Held],
-) -> Result<(), AllocError>
-    requires { AreSingle changes.now }
-    ensures names { OnOk result (rows_of rows.new.items ≡ rows_of rows.old.items ++ name_if row.now changes.now) }
-    ensures cells { OnOk result ((groups : List (List ℕ × List held_value)) → Contains groups (row.now, changes.now) → AllByRecursion (IsRowOf groups) rows.old.items → AllByRecursion (IsRowOf groups) rows.new.items) }
-{
-    if !has_sign(changes) {
-        return Ok(());
-    }
-    rows.push(row_of(alloc, row, changes)?)?;
-    Ok(())
-}
-
-/// The rows of a walk that are shown, in its order.
-pub(crate) fn shown_rows(
-    alloc: Global,
-    walk: Range<'_, Bytes, Vec<Held>>,
-) -> Result<Vec<ShownRow>, AllocError>
-    requires { AreSingleGroups (shown_of walk) }
-    ensures names { IfOk result (λ rows. rows_of rows.items ≡ names_with (shown_of walk.entry)) }
-    ensures cells { IfOk result (λ rows. AllByRecursion (IsRowOf (shown_of walk.entry)) rows.items) }
-{
-    let mut rows = Vec::new(alloc);
-    for (row, changes) in walk {
-        add_row(alloc, &mut rows, row, changes)?;
-    }
-    Ok(rows)
 }

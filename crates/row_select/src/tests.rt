@@ -177,12 +177,34 @@ fn rows_between_bounds(rt: HostRuntime) -> Result<(), Fail> {
         ("b", false, "h", true, true, 2, "h:3=, f:3=z, +"),
         ("d", false, "e", true, false, 0, ""),
         ("c", false, "c", true, false, 1, "c: "),
+        ("c", false, "e", true, false, 1, "c: "),
+        ("d", false, "f", true, true, 1, "f:3=z, "),
         ("h", true, "a", false, true, 9, ""),
     ];
     for (from, behind, upto, with, reversed, limit, expected) in cases {
         let from = bound(alloc, from, behind)?;
         let upto = bound(alloc, upto, with)?;
         let asked = query(alloc, from, upto, reversed, limit)?;
+        assert_eq!(rt; read(alloc, &content, &asked)?.as_str(), expected);
+    }
+    Ok(())
+}
+
+#[test]
+fn a_reversed_read_gives_the_last_rows(rt: HostRuntime) -> Result<(), Fail> {
+    let alloc = rt.alloc();
+    let content = worked(alloc)?;
+    let cases = [
+        ("b", "f", 1, "f:3=z, +"),
+        ("b", "f", 2, "f:3=z, c: +"),
+        ("b", "f", 3, "f:3=z, c: b: "),
+        ("c", "g", 1, "f:3=z, +"),
+        ("c", "g", 2, "f:3=z, c: "),
+    ];
+    for (from, upto, limit, expected) in cases {
+        let from = bound(alloc, from, false)?;
+        let upto = bound(alloc, upto, true)?;
+        let asked = query(alloc, from, upto, true, limit)?;
         assert_eq!(rt; read(alloc, &content, &asked)?.as_str(), expected);
     }
     Ok(())

@@ -1,0 +1,18 @@
+#!/usr/bin/env bash
+# Queries of ten rows from the middle of a partition on, half of them reversed: how the time of one grows with the cells held,
+# one to a row. It should grow with the logarithm alone.
+# Usage: run.sh [TURNS], after `rt run` in crates/row_select_bench built the program.
+set -euo pipefail
+cd "$(dirname "$0")"
+turns=${1:-3}
+queries=100000
+program=../../crates/row_select_bench/out/row_select_bench
+for cells in 1000 10000 100000 1000000; do
+    best=
+    for turn in $(seq "$turns"); do
+        micros=$("$program" time "$cells" "$queries")
+        if [ -z "$best" ] || [ "$micros" -lt "$best" ]; then best=$micros; fi
+    done
+    awk -v n="$cells" -v q="$queries" -v t="$best" 'BEGIN {
+        printf "%7d cells: %6.3f us a query, %5.3f us by log2 n\n", n, t / q, t / q / (log(n) / log(2)) }'
+done

@@ -1,0 +1,118 @@
+//! Queries of ten rows from the middle of one partition on, one cell a row, half of them reversed. With no words it prints
+//! what two queries show of forty cells; `time CELLS QUERIES` makes a partition of so many cells, runs so many queries, and
+//! writes how many microseconds the queries took.
+#![tactic(auto)]
+
+use anyhow::{Result, bail};
+use cell_merge::Content;
+use changes::{Bound, Held, Helds, Partition, Place, Query, ShownRow};
+use cs_base::{Bytes, Items, Micros, NodeId, ReqId};
+use row_select::shown;
+use std::alloc::{AllocError, Global};
+use std::env;
+use std::time::Instant;
+
+fn main(rt: HostRuntime) -> Result<()> {
+    let words: Vec<String> = env::args(&rt)?.collect(rt.alloc())?;
+    let command = words.get(1).map_or("sample", |word| word.as_str());
+    let cells: u32 = words.get(2).map_or("40", |word| word.as_str()).parse()?;
+    let queries: u32 = words.get(3).map_or("2", |word| word.as_str()).parse()?;
+    let content = content_of(rt.alloc(), cells)?;
+    match command {
+        "sample" => {
+            for number in 0..queries {
+                println!(rt; "{}", shown_line(rt.alloc(), &content, number)?)?;
+            }
+        }
+        "time" => {
+            let start = Instant::now(&rt)?;
+            let rows = run_queries(rt.alloc(), &content, queries)?;
+            let micros = start.elapsed(&rt)?.as_micros();
+            if rows == 0 {
+                bail!("no rows");
+            }
+            println!(rt; "{micros}")?;
+        }
+        _ => bail!("time CELLS QUERIES, or no words"),
+    }
+    Ok(())
+}
+
+/// A content of so many cells, each in a row of its own.
+fn content_of(alloc: Global, cells: u32) -> Result<Content, AllocError> {
+    let mut content = Content::new(alloc);
+    for at in 0..cells {
+        content.apply(&one_cell(alloc, at)?)?;
+    }
+    Ok(content)
+}
+
+/// A cell in a row with a name of four bytes; the factor is odd, so that each number has a row of its own, and spreads them.
+fn one_cell(alloc: Global, at: u32) -> Result<Helds, AllocError> {
+    let name = at.wrapping_mul(2654435761).to_be_bytes();
+    let mut changes = Items::new(alloc);
+    changes.push(Held {
+        place: Place::Cell(Bytes::from_slice(alloc, &name)?, 1),
+        value: Some(Bytes::from_slice(alloc, b"value")?),
+        timestamp: i64::from(at),
+        submitted: Micros::new(1),
+        request: ReqId {
+            node: NodeId::FIRST,
+            time: Micros::new(1),
+        },
+    })?;
+    Ok(changes)
+}
+
+/// The query of ten rows from a little behind the middle to the end; every second one is reversed.
+fn query_of(alloc: Global, number: u32) -> Result<Query, AllocError> {
+    let behind = (number % 16) as u8;
+    Ok(Query {
+        partition: Partition {
+            table: 0,
+            token: 0,
+            key: Bytes::new(alloc),
+        },
+        from: Bound {
+            at: Bytes::from_slice(alloc, &[128 + behind])?,
+            after: false,
+        },
+        upto: Bound {
+            at: Bytes::new(alloc),
+            after: true,
+        },
+        reversed: number % 2 == 1,
+        limit: 10,
+    })
+}
+
+/// How many rows so many queries show.
+fn run_queries(alloc: Global, content: &Content, queries: u32) -> Result<usize, AllocError> {
+    let mut shown_rows: usize = 0;
+    for number in 0..queries {
+        let query = query_of(alloc, number)?;
+        let (rows, _) = shown(alloc, content, &query)?;
+        shown_rows = shown_rows.wrapping_add(rows.as_slice().len());
+    }
+    Ok(shown_rows)
+}
+
+/// The rows that one query shows, by the first two bytes of their names, with a `+` where more follow.
+fn shown_line(alloc: Global, content: &Content, number: u32) -> Result<String, AllocError> {
+    let (rows, more) = shown(alloc, content, &query_of(alloc, number)?)?;
+    let mut line = String::new(alloc);
+    for row in rows.as_slice() {
+        push_row(alloc, &mut line, row)?;
+    }
+    if more {
+        line.push('+')?;
+    }
+    Ok(line)
+}
+
+fn push_row(alloc: Global, line: &mut String, row: &ShownRow) -> Result<(), AllocError> {
+    for byte in row.row.as_slice().iter().take(2) {
+        line.push_str(&format!(in alloc; "{byte:02x}")?)?;
+    }
+    line.push(' ')
+}
