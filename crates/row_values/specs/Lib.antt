@@ -1,0 +1,5 @@
+pub mod Keys
+pub mod Values
+pub mod Fronts
+pub mod Prints
+pub mod Laws
