@@ -1,3 +1,4 @@
 pub mod Lists
 pub mod PrinterLaws
-pub mod Rows
+pub mod RowLines
+pub mod Numbers

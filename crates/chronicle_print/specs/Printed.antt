@@ -1,20 +1,27 @@
 -- A chronicle in print: a line for each answer, with the number of its request. The newest entry comes first.
-use Rattle.std.specs.Prelude.{ℕ, ◌+◌, ◌==◌, if◌then◌else◌, Option, Some, None, List, [], ◌∷◌, ◌++◌, length, flat_map, codes, find}
-use Rattle.std.specs.Option.{option_map}
+use Rattle.std.specs.Prelude.{◌≡◌, ℕ, ◌+◌, if◌then◌else◌, Option, Some, None, List, [], ◌∷◌, ◌++◌, length, codes, slice_get}
 use Rattle.std.specs.Fmt.{decimal}
 use Rattle.cs_base.specs.declared.ids.ReqId.{ReqId}
 use Rattle.cs_base.specs.Requests.{is_request}
+use Rattle.changes.specs.declared.Partition.{Partition}
 use Rattle.changes.specs.declared.ShownRow.{ShownRow}
-use Rattle.changes.specs.declared.ShownCell.{ShownCell}
+use Rattle.cql_values.specs.declared.value.CqlValue.{CqlValue}
+use Rattle.schema_book.specs.declared.table.ColumnDef.{ColumnDef}
+use Rattle.schema_book.specs.declared.table.Table.{Table}
+use Rattle.row_values.specs.Values.{AreValuesOf}
+use Rattle.row_values.specs.Prints.{values_text}
+use Rattle.statement_plan.specs.declared.plan.Columns.{Columns}
+use Rattle.statement_plan.specs.declared.plan.Columns.TheVariants.{Listed, Count}
+use Rattle.statement_plan.specs.Faults.{name_of}
 use Rattle.peer_messages.specs.declared.chronicle.Invalid.{Invalid}
-use Rattle.peer_messages.specs.declared.chronicle.Invalid.TheVariants.{SerialWrite, Level, UnknownTable}
+use Rattle.peer_messages.specs.declared.chronicle.Invalid.TheVariants.{SerialWrite, Level, UnknownTable, Statement}
 use Rattle.peer_messages.specs.declared.chronicle.Refusal.{Refusal}
 use Rattle.peer_messages.specs.declared.chronicle.Refusal.TheVariants as refusal
 use Rattle.peer_messages.specs.declared.chronicle.Refusal.TheVariants.{Unavailable, Overloaded}
 use Rattle.peer_messages.specs.declared.chronicle.Entry.{Entry}
-use Rattle.peer_messages.specs.declared.chronicle.Entry.TheVariants.{Asked, Submitted, Acked, Refused, Began, Rows, Time, Turned}
+use Rattle.peer_messages.specs.declared.chronicle.Entry.TheVariants.{Asked, Submitted, Acked, Refused, Used, Began, Rows, Time, Turned}
 
--- Numbers: each request that came has its place among them all
+-- ---- numbers: each request that came has its place among them all
 
 abbrev pub asked_count : List Entry → ℕ
 asked_count [] = 0
@@ -28,47 +35,62 @@ number_of (Asked None ∷ earlier) request = number_of earlier request
 number_of (Asked (Some r) ∷ earlier) request = if is_request r request then asked_count earlier + 1 else number_of earlier request
 number_of (e ∷ earlier) request = number_of earlier request
 
--- Rows of `SELECT c, v`
+-- ---- rows, as the statement of their read shows them
 
--- the column v
-abbrev pub value_column : ℕ
-value_column = 2
+-- the partition that the last read of this id asked of, and what is shown of its rows
+abbrev pub shape_of : List Entry → ReqId → Option (Partition × Columns)
+shape_of [] request = None
+shape_of (Began r query level columns ∷ earlier) request = if is_request r request then Some (query.partition, columns) else shape_of earlier request
+shape_of (e ∷ earlier) request = shape_of earlier request
 
--- a text as a CQL string: in single quotes, which are doubled inside
-abbrev pub quoted_byte : ℕ → List ℕ
-quoted_byte b = if b == 39 then 39 ∷ 39 ∷ [] else b ∷ []
+abbrev pub columns_in : Option Table → List ColumnDef
+columns_in None = []
+columns_in (Some table) = table.columns
 
-abbrev pub quoted : List ℕ → List ℕ
-quoted text = 39 ∷ flat_map quoted_byte text ++ 39 ∷ []
+-- the columns of the table of this number
+abbrev pub columns_of : List Table → ℕ → List ColumnDef
+columns_of tables number = columns_in (slice_get tables number)
 
--- the text that has these order bytes
-abbrev pub text_from_order : List ℕ → List ℕ
-text_from_order [] = []
-text_from_order (b ∷ []) = []
-text_from_order (b ∷ c ∷ rest) = if b == 0 then (if c == 255 then 0 ∷ text_from_order rest else []) else b ∷ text_from_order (c ∷ rest)
+-- the line of a row: the values of these of its columns
+abbrev pub IsRowLine : List ColumnDef → List ℕ → List ℕ → ShownRow → List ℕ → Type 0
+IsRowLine columns key listed row line =
+    (values : List (Option CqlValue)) × AreValuesOf columns key row values × (line ≡ 32 ∷ values_text values listed ++ 10 ∷ [])
 
-abbrev pub value_text : Option (List ℕ) → List ℕ
-value_text None = codes "null"
-value_text (Some value) = quoted value
+-- one line for each row
+abbrev pub AreRowLines : (ShownRow → List ℕ → Type 0) → List ShownRow → List ℕ → Type 0
+AreRowLines IsLine [] lines = lines ≡ []
+AreRowLines IsLine (row ∷ rows) lines = (first : List ℕ) × (later : List ℕ) × IsLine row first × AreRowLines IsLine rows later × (lines ≡ first ++ later)
 
-abbrev pub value_at : List ShownCell → ℕ → Option (List ℕ)
-value_at cells column = option_map (λ c. c.value) (find (λ c. c.column == column) cells)
+abbrev pub rows_line : ℕ → ℕ → List ℕ
+rows_line number count = decimal number ++ codes " rows " ++ decimal count ++ 10 ∷ []
 
-abbrev pub row_line : ShownRow → List ℕ
-row_line r = 32 ∷ quoted (text_from_order r.row) ++ codes " | " ++ value_text (value_at r.cells value_column) ++ 10 ∷ []
+-- COUNT(*) shows one row, the number of those that were found
+abbrev pub count_lines : ℕ → ℕ → List ℕ
+count_lines number count = rows_line number 1 ++ (32 ∷ decimal count ++ 10 ∷ [])
 
--- Answers, under the number of their request
+abbrev pub AreRowsOf : List Table → Partition → Columns → ℕ → List ShownRow → List ℕ → Type 0
+AreRowsOf tables p (Listed listed) number rows lines =
+    (behind : List ℕ) × AreRowLines (IsRowLine (columns_of tables p.table) p.key listed) rows behind × (lines ≡ rows_line number (length rows) ++ behind)
+AreRowsOf tables p Count number rows lines = lines ≡ count_lines number (length rows)
+
+-- rows of a read that never began are told by their number alone
+abbrev pub AreRows : List Table → Option (Partition × Columns) → ℕ → List ShownRow → List ℕ → Type 0
+AreRows tables None number rows lines = lines ≡ rows_line number (length rows)
+AreRows tables (Some shape) number rows lines = AreRowsOf tables shape.0 shape.1 number rows lines
+
+-- ---- answers, under the number of their request
 
 abbrev pub acked_line : ℕ → List ℕ
 acked_line number = decimal number ++ codes " ok" ++ 10 ∷ []
 
-abbrev pub rows_lines : ℕ → List ShownRow → List ℕ
-rows_lines number rows = decimal number ++ codes " rows " ++ decimal (length rows) ++ 10 ∷ flat_map row_line rows
+abbrev pub used_line : ℕ → List ℕ → List ℕ
+used_line number keyspace = decimal number ++ codes " keyspace " ++ keyspace ++ 10 ∷ []
 
 abbrev pub invalid_text : Invalid → List ℕ
 invalid_text SerialWrite = codes "SerialWrite"
 invalid_text Level = codes "Level"
 invalid_text UnknownTable = codes "UnknownTable"
+invalid_text (Statement fault) = name_of fault
 
 abbrev pub refusal_text : Refusal → List ℕ
 refusal_text (Unavailable required alive) = codes "unavailable required " ++ decimal required ++ codes " alive " ++ decimal alive
@@ -79,17 +101,20 @@ abbrev pub refused_line : ℕ → Refusal → List ℕ
 refused_line number why = decimal number ++ 32 ∷ refusal_text why ++ 10 ∷ []
 
 -- what an entry prints, behind those before it
-abbrev pub printed_entry : List Entry → Entry → List ℕ
-printed_entry earlier (Asked request) = []
-printed_entry earlier (Submitted request mutation) = []
-printed_entry earlier (Acked request level heard) = acked_line (number_of earlier request)
-printed_entry earlier (Refused request why) = refused_line (number_of earlier request) why
-printed_entry earlier (Began request query level) = []
-printed_entry earlier (Rows request rows more grounds) = rows_lines (number_of earlier request) rows
-printed_entry earlier (Time node time) = []
+abbrev pub IsEntryInPrint : List Table → List Entry → Entry → List ℕ → Type 0
+IsEntryInPrint tables earlier (Asked request) lines = lines ≡ []
+IsEntryInPrint tables earlier (Submitted request mutation) lines = lines ≡ []
+IsEntryInPrint tables earlier (Acked request level heard) lines = lines ≡ acked_line (number_of earlier request)
+IsEntryInPrint tables earlier (Refused request why) lines = lines ≡ refused_line (number_of earlier request) why
+IsEntryInPrint tables earlier (Used request keyspace) lines = lines ≡ used_line (number_of earlier request) keyspace
+IsEntryInPrint tables earlier (Began request query level columns) lines = lines ≡ []
+IsEntryInPrint tables earlier (Rows request rows more grounds) lines = AreRows tables (shape_of earlier request) (number_of earlier request) rows lines
+IsEntryInPrint tables earlier (Time node time) lines = lines ≡ []
 -- of the request that came last
-printed_entry earlier (Turned node why) = refused_line (asked_count earlier) why
+IsEntryInPrint tables earlier (Turned node why) lines = lines ≡ refused_line (asked_count earlier) why
 
-abbrev pub printed : List Entry → List ℕ
-printed [] = []
-printed (e ∷ earlier) = printed earlier ++ printed_entry earlier e
+-- the text is the chronicle in print, for these tables by number
+abbrev pub IsInPrint : List Table → List Entry → List ℕ → Type 0
+IsInPrint tables [] text = text ≡ []
+IsInPrint tables (e ∷ earlier) text =
+    (before : List ℕ) × (lines : List ℕ) × IsInPrint tables earlier before × IsEntryInPrint tables earlier e lines × (text ≡ before ++ lines)

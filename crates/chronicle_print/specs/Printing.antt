@@ -1,21 +1,45 @@
 -- What a printer does with an entry.
-use Rattle.std.specs.Prelude.{◌≡◌, ℕ, ◌+◌, if◌then◌else◌, Option, Some, None, List, [], ◌++◌}
+use Rattle.std.specs.Prelude.{◌≡◌, ℕ, ◌+◌, if◌then◌else◌, Option, Some, None, List, [], ◌++◌, slice_get}
 use Rattle.std.specs.Option.{unwrap_or}
 use Rattle.std.specs.BTreeMap.{BTreeMap, get}
 use Rattle.cs_base.specs.declared.ids.ReqId.{ReqId}
 use Rattle.cs_base.specs.Requests.{is_request, request_cmp}
+use Rattle.changes.specs.declared.Partition.{Partition}
+use Rattle.schema_book.specs.declared.table.Table.{Table}
+use Rattle.statement_plan.specs.declared.plan.Columns.{Columns}
 use Rattle.peer_messages.specs.declared.chronicle.Entry.{Entry}
-use Rattle.peer_messages.specs.declared.chronicle.Entry.TheVariants.{Asked, Submitted, Acked, Refused, Began, Rows, Time, Turned}
-use Rattle.chronicle_print.specs.Printed.{acked_line, rows_lines, refused_line}
+use Rattle.peer_messages.specs.declared.chronicle.Entry.TheVariants.{Asked, Submitted, Acked, Refused, Used, Began, Rows, Time, Turned}
+use Rattle.chronicle_print.specs.Printed.{acked_line, used_line, refused_line, AreRows}
 use Rattle.chronicle_print.specs.declared.printer.Printer.{Printer}
 
 -- the number under which the map has a request, or 0
 abbrev pub number_in : BTreeMap ReqId ℕ → ReqId → ℕ
 number_in numbers request = unwrap_or (get request_cmp numbers request) 0
 
+-- the place of the last start of a read of this id
+abbrev pub place_in : BTreeMap ReqId ℕ → ReqId → Option ℕ
+place_in places request = get request_cmp places request
+
+-- what the read asks for that starts with an entry
+abbrev pub started_by : Entry → Option (Partition × Columns)
+started_by (Began request query level columns) = Some (query.partition, columns)
+started_by e = None
+
+abbrev pub started_in : Option Entry → Option (Partition × Columns)
+started_in None = None
+started_in (Some e) = started_by e
+
+abbrev pub start_at : List Entry → Option ℕ → Option Entry
+start_at entries None = None
+start_at entries (Some place) = slice_get entries place
+
+abbrev pub shape_in : List Entry → BTreeMap ReqId ℕ → ReqId → Option (Partition × Columns)
+shape_in entries places request = started_in (start_at entries (place_in places request))
+
 pub record IsFresh (printer : Printer) : Type 0 where
   pub asked : printer.asked ≡ 0
   pub numbers : (id : ReqId) → number_in printer.numbers id ≡ 0
+  pub places : (id : ReqId) → place_in printer.places id ≡ None
   pub out : printer.out.items ≡ []
 
 -- a request takes the number, if it has an id
@@ -27,20 +51,32 @@ numbered number (Some request) id before = if is_request request id then number 
 pub record Counts (request : Option ReqId) (old new : Printer) : Type 0 where
   pub asked : new.asked ≡ old.asked + 1
   pub numbers : (id : ReqId) → number_in new.numbers id ≡ numbered (old.asked + 1) request id (number_in old.numbers id)
+  pub places : new.places ≡ old.places
+  pub out : new.out.items ≡ old.out.items
+
+-- a read began with the entry at this place
+pub record Begins (request : ReqId) (place : ℕ) (old new : Printer) : Type 0 where
+  pub asked : new.asked ≡ old.asked
+  pub numbers : new.numbers ≡ old.numbers
+  pub places : (id : ReqId) → place_in new.places id ≡ (if is_request request id then Some place else place_in old.places id)
   pub out : new.out.items ≡ old.out.items
 
 -- these lines are printed, and nothing is counted
 pub record Adds (lines : List ℕ) (old new : Printer) : Type 0 where
   pub asked : new.asked ≡ old.asked
   pub numbers : new.numbers ≡ old.numbers
+  pub places : new.places ≡ old.places
   pub out : new.out.items ≡ old.out.items ++ lines
 
-abbrev pub Takes : Printer → Entry → Printer → Type 0
-Takes old (Asked request) new = Counts request old new
-Takes old (Submitted request mutation) new = new ≡ old
-Takes old (Acked request level heard) new = Adds (acked_line (number_in old.numbers request)) old new
-Takes old (Refused request why) new = Adds (refused_line (number_in old.numbers request) why) old new
-Takes old (Began request query level) new = new ≡ old
-Takes old (Rows request rows more grounds) new = Adds (rows_lines (number_in old.numbers request) rows) old new
-Takes old (Time node time) new = new ≡ old
-Takes old (Turned node why) new = Adds (refused_line old.asked why) old new
+-- it takes the entry at this place of all of them
+abbrev pub Takes : List Table → List Entry → ℕ → Printer → Entry → Printer → Type 0
+Takes tables entries place old (Asked request) new = Counts request old new
+Takes tables entries place old (Submitted request mutation) new = new ≡ old
+Takes tables entries place old (Acked request level heard) new = Adds (acked_line (number_in old.numbers request)) old new
+Takes tables entries place old (Refused request why) new = Adds (refused_line (number_in old.numbers request) why) old new
+Takes tables entries place old (Used request keyspace) new = Adds (used_line (number_in old.numbers request) keyspace) old new
+Takes tables entries place old (Began request query level columns) new = Begins request place old new
+Takes tables entries place old (Rows request rows more grounds) new =
+    (lines : List ℕ) × AreRows tables (shape_in entries old.places request) (number_in old.numbers request) rows lines × Adds lines old new
+Takes tables entries place old (Time node time) new = new ≡ old
+Takes tables entries place old (Turned node why) new = Adds (refused_line old.asked why) old new

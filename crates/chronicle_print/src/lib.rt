@@ -3,6 +3,7 @@
 
 mod lines;
 mod printer;
+mod rows;
 #[cfg(test)]
 mod tests;
 

@@ -1,26 +1,32 @@
 //! Answers in print, with the numbers of their requests.
 
 ghost use Rattle.std.specs.Prelude.{◌≡◌, ◌<◌, ◌^◌, OnOk, IfOk, reverse};
-ghost use Rattle.chronicle_print.specs.Printed.{printed};
+ghost use Rattle.chronicle_print.specs.Printed.{IsInPrint};
 
-use crate::lines::{push_acked, push_refused, push_rows};
+use crate::lines::{push_acked, push_refused, push_used};
+use crate::rows::push_rows;
 use changes::ShownRow;
-use cs_base::ReqId;
+use cs_base::{ReqId, Text};
 use peer_messages::{Entry, Refusal};
+use schema_book::Table;
 use std::alloc::{AllocError, Global};
 use std::collections::BTreeMap;
 
-/// What the entries so far made: how many requests came, the number of the last request of each id, and the text.
+/// What the entries so far made: how many requests came, the number of the last request of each id, the place of the entry
+/// with which the last read of each id began, and the text.
 #[derive(Drop)]
 struct Printer {
     asked: u64,
     numbers: BTreeMap<ReqId, u64>,
+    places: BTreeMap<ReqId, usize>,
     out: Vec<u8>,
 }
 
 impl Printer {
-    ghost use Rattle.chronicle_print.specs.Printed.{acked_line, rows_lines, refused_line};
-    ghost use Rattle.chronicle_print.specs.Printing.{number_in, IsFresh, Counts, Adds, Takes};
+    ghost use Rattle.std.specs.Prelude.{ℕ, List};
+    ghost use Rattle.std.specs.Option.{option_copied};
+    ghost use Rattle.chronicle_print.specs.Printed.{acked_line, used_line, refused_line, AreRows};
+    ghost use Rattle.chronicle_print.specs.Printing.{number_in, place_in, start_at, shape_in, IsFresh, Counts, Begins, Adds, Takes};
 
     fn new(alloc: Global) -> Printer
         ensures { IsFresh result }
@@ -28,15 +34,26 @@ impl Printer {
         Printer {
             asked: 0,
             numbers: BTreeMap::new(alloc),
+            places: BTreeMap::new(alloc),
             out: Vec::new(alloc),
         }
     }
 
     /// The number of the last request of this id; 0 where none came.
-    fn number_of(&self, request: ReqId) -> u64
-        ensures { result ≡ number_in self.now.numbers request }
+    fn number_of(&self, request: &ReqId) -> u64
+        ensures { result ≡ number_in self.now.numbers request.now }
     {
-        self.numbers.get(&request).copied().unwrap_or(0)
+        self.numbers.get(request).copied().unwrap_or(0)
+    }
+
+    /// The entry with which the last read of this id began.
+    fn start_of<'a>(&self, entries: &'a [Entry], request: &ReqId) -> Option<&'a Entry>
+        ensures { option_copied result ≡ start_at entries.now (place_in self.now.places request.now) }
+    {
+        match self.places.get(request) {
+            Some(place) => entries.get(*place),
+            None => None,
+        }
     }
 
     fn ask(&mut self, request: Option<ReqId>) -> Result<(), AllocError>
@@ -50,18 +67,40 @@ impl Printer {
         Ok(())
     }
 
-    fn acknowledge(&mut self, alloc: Global, request: ReqId) -> Result<(), AllocError>
-        ensures { OnOk result (Adds (acked_line (number_in self.old.numbers request)) self.old self.new) }
+    fn begin(&mut self, request: ReqId, place: usize) -> Result<(), AllocError>
+        ensures { OnOk result (Begins request place self.old self.new) }
+    {
+        self.places.insert(request, place)?;
+        Ok(())
+    }
+
+    fn acknowledge(&mut self, alloc: Global, request: &ReqId) -> Result<(), AllocError>
+        ensures { OnOk result (Adds (acked_line (number_in self.old.numbers request.now)) self.old self.new) }
     {
         let number = self.number_of(request);
         push_acked(alloc, &mut self.out, number)
     }
 
-    fn show(&mut self, alloc: Global, request: ReqId, rows: &[ShownRow]) -> Result<(), AllocError>
-        ensures { OnOk result (Adds (rows_lines (number_in self.old.numbers request) rows.now) self.old self.new) }
+    fn name(&mut self, alloc: Global, request: &ReqId, keyspace: &Text) -> Result<(), AllocError>
+        ensures { OnOk result (Adds (used_line (number_in self.old.numbers request.now) keyspace.now) self.old self.new) }
     {
         let number = self.number_of(request);
-        push_rows(alloc, &mut self.out, number, rows)
+        push_used(alloc, &mut self.out, number, keyspace.as_str())
+    }
+
+    fn show(
+        &mut self,
+        alloc: Global,
+        tables: &[Table],
+        entries: &[Entry],
+        request: &ReqId,
+        rows: &[ShownRow],
+    ) -> Result<(), AllocError>
+        ensures { OnOk result ((lines : List ℕ) × AreRows tables.now (shape_in entries.now self.old.places request.now) (number_in self.old.numbers request.now) rows.now lines × Adds lines self.old self.new) }
+    {
+        let number = self.number_of(request);
+        let start = self.start_of(entries, request);
+        push_rows(alloc, &mut self.out, tables, number, start, rows)
     }
 
     fn refuse(&mut self, alloc: Global, number: u64, refusal: Refusal) -> Result<(), AllocError>
@@ -70,39 +109,57 @@ impl Printer {
         push_refused(alloc, &mut self.out, number, refusal)
     }
 
-    fn take(&mut self, alloc: Global, entry: &Entry) -> Result<(), AllocError>
+    fn take(
+        &mut self,
+        alloc: Global,
+        tables: &[Table],
+        entries: &[Entry],
+        place: usize,
+        entry: &Entry,
+    ) -> Result<(), AllocError>
         requires { self.old.asked < 2 ^ 63 }
-        ensures { OnOk result (Takes self.old entry.now self.new) }
+        ensures { OnOk result (Takes tables.now entries.now place self.old entry.now self.new) }
     {
         match entry {
             Entry::Asked(request) => self.ask(*request),
-            Entry::Acked(request, _, _) => self.acknowledge(alloc, *request),
+            Entry::Acked(request, _, _) => self.acknowledge(alloc, request),
             Entry::Refused(request, refusal) => {
-                self.refuse(alloc, self.number_of(*request), *refusal)
+                self.refuse(alloc, self.number_of(request), *refusal)
             }
-            Entry::Rows(request, rows, _, _) => self.show(alloc, *request, rows.as_slice()),
+            Entry::Used(request, keyspace) => self.name(alloc, request, keyspace),
+            Entry::Began(request, _, _, _) => self.begin(*request, place),
+            Entry::Rows(request, rows, _, _) => {
+                self.show(alloc, tables, entries, request, rows.as_slice())
+            }
             // the request that came last
             Entry::Turned(_, refusal) => self.refuse(alloc, self.asked, *refusal),
-            Entry::Submitted(_, _) | Entry::Began(_, _, _) | Entry::Time(_, _) => Ok(()),
+            Entry::Submitted(_, _) | Entry::Time(_, _) => Ok(()),
         }
     }
 }
 
-/// Prints the answers of a chronicle, whose oldest entry comes first. An `Err` is for want of memory.
+/// Prints the answers of a chronicle, whose oldest entry comes first, for these tables by number. An `Err` is for want of
+/// memory.
 ///
-/// Each answer is a line: the number of its request, and `ok`, `rows N`, `unavailable required A alive B`,
-/// `overloaded`, or `invalid` and the reason's name. Behind `rows N` come N lines, one a row as
-/// `SELECT c, v FROM script.kv` shows it: a space, `c`, ` | ` and `v`, in single quotes, or `null` for no `v`. The
-/// bytes of a row are the order bytes of the text `c`.
+/// Each answer is a line: the number of its request, and `ok`, `rows N`, `keyspace NAME`,
+/// `unavailable required A alive B`, `overloaded`, or `invalid` and the reason's name. Behind `rows N` come N lines, one a
+/// row: a space and the values that the read's statement shows, as CQL literals with ` | ` between them, or `null` for no
+/// value. A count is one row with one number.
 ///
 /// A request's number is its place among all that came, from 1 on. One that its node could not begin has a number too;
 /// of an id that came twice the last request counts; an answer to none has the number 0.
-pub fn print_chronicle(alloc: Global, entries: &[Entry]) -> Result<Vec<u8>, AllocError>
-    ensures { IfOk result (λ text. text.items ≡ printed (reverse entries.now)) }
+pub fn print_chronicle(
+    alloc: Global,
+    tables: &[Table],
+    entries: &[Entry],
+) -> Result<Vec<u8>, AllocError>
+    ensures { IfOk result (λ text. IsInPrint tables.now (reverse entries.now) text.items) }
 {
     let mut printer = Printer::new(alloc);
+    let mut place = 0;
     for entry in entries {
-        printer.take(alloc, entry)?;
+        printer.take(alloc, tables, entries, place, entry)?;
+        place += 1;
     }
     Ok(printer.out)
 }

@@ -3,8 +3,10 @@
 use crate::print_chronicle;
 use cell_merge::Content;
 use changes::{Bound, Mutation, Partition, Query, ShownCell, ShownRow, ShownRows};
-use cs_base::{Bytes, Items, Level, Micros, NodeId, ReqId};
+use cs_base::{Bytes, Items, Level, Micros, NodeId, ReqId, Text};
 use peer_messages::{Entry, Grounds, Invalid, Refusal};
+use schema_book::Schema;
+use statement_plan::{Columns, Fault, Feature};
 use std::alloc::Global;
 use std::test::Fail;
 
@@ -32,7 +34,8 @@ fn submitted(alloc: Global, request: ReqId) -> Result<Entry, Fail> {
     Ok(Entry::Submitted(request, mutation))
 }
 
-fn began(alloc: Global, request: ReqId) -> Result<Entry, Fail> {
+/// The start of a read, of which these columns are shown, or the number of rows.
+fn began(alloc: Global, request: ReqId, listed: Option<&[u8]>) -> Result<Entry, Fail> {
     let query = Query {
         partition: partition(alloc)?,
         from: Bound {
@@ -46,7 +49,16 @@ fn began(alloc: Global, request: ReqId) -> Result<Entry, Fail> {
         reversed: false,
         limit: 2,
     };
-    Ok(Entry::Began(request, query, Level::Quorum))
+    let columns = match listed {
+        Some(numbers) => Columns::Listed(Items::from_vec(Vec::from_slice(alloc, numbers)?)),
+        None => Columns::Count,
+    };
+    Ok(Entry::Began(request, query, Level::Quorum, columns))
+}
+
+/// The schema of `script.kv` alone.
+fn schema(alloc: Global) -> Result<Schema, Fail> {
+    Ok(Schema::from_statements(alloc, &Items::new(alloc), 1, 1, 0)?)
 }
 
 fn acked(alloc: Global, request: ReqId) -> Entry {
@@ -95,8 +107,21 @@ fn add_read(alloc: Global, entries: &mut Vec<Entry>) -> Result<(), Fail> {
     shown.push(row(alloc, b"it's\x00\x00", 2, b"it's")?)?;
     shown.push(row(alloc, b"b\x00\xff\x00\x00", 3, b"x")?)?;
     entries.push(Entry::Asked(Some(id(9))))?;
-    entries.push(began(alloc, id(9))?)?;
+    entries.push(began(alloc, id(9), None)?)?;
+    entries.push(began(alloc, id(9), Some(&[1, 2, 0]))?)?;
     entries.push(rows(alloc, id(9), shown))?;
+    Ok(())
+}
+
+/// A count of one row, and a keyspace.
+fn add_count(alloc: Global, entries: &mut Vec<Entry>) -> Result<(), Fail> {
+    let mut shown = Items::new(alloc);
+    shown.push(row(alloc, b"b\x00\x00", 2, b"x")?)?;
+    entries.push(Entry::Asked(Some(id(10))))?;
+    entries.push(began(alloc, id(10), None)?)?;
+    entries.push(Entry::Asked(Some(id(11))))?;
+    entries.push(Entry::Used(id(11), Text::from_str(alloc, "ks")?))?;
+    entries.push(rows(alloc, id(10), shown))?;
     Ok(())
 }
 
@@ -112,9 +137,12 @@ fn add_late(alloc: Global, entries: &mut Vec<Entry>) -> Result<(), Fail> {
 const PRINTED: &[u8] = b"1 ok
 2 unavailable required 2 alive 1
 3 rows 2
- 'it''s' | 'it''s'
- 'b\x00' | null
-4 ok
+ 'it''s' | 'it''s' | 'k'
+ 'b\x00' | null | 'k'
+5 keyspace ks
+4 rows 1
+ 1
+6 ok
 3 overloaded
 0 ok
 ";
@@ -125,8 +153,10 @@ fn prints_a_chronicle(rt: HostRuntime) -> Result<(), Fail> {
     let mut entries = Vec::new(alloc);
     add_writes(alloc, &mut entries)?;
     add_read(alloc, &mut entries)?;
+    add_count(alloc, &mut entries)?;
     add_late(alloc, &mut entries)?;
-    let text = print_chronicle(alloc, &entries)?;
+    let schema = schema(alloc)?;
+    let text = print_chronicle(alloc, schema.tables(), &entries)?;
     assert_eq!(rt; text.as_slice(), PRINTED);
     Ok(())
 }
@@ -135,19 +165,26 @@ fn prints_a_chronicle(rt: HostRuntime) -> Result<(), Fail> {
 fn names_refusals(rt: HostRuntime) -> Result<(), Fail> {
     let alloc = rt.alloc();
     let mut entries = Vec::new(alloc);
-    for why in [Invalid::SerialWrite, Invalid::Level, Invalid::UnknownTable] {
+    let unsupported = Fault::NotSupported(Feature::Batch);
+    for why in [
+        Invalid::SerialWrite,
+        Invalid::Level,
+        Invalid::UnknownTable,
+        Invalid::Statement(unsupported),
+    ] {
         entries.push(Entry::Asked(None))?;
         entries.push(Entry::Turned(NodeId::FIRST, Refusal::Invalid(why)))?;
     }
-    let text = print_chronicle(alloc, &entries)?;
-    let want = b"1 invalid SerialWrite\n2 invalid Level\n3 invalid UnknownTable\n";
+    let text = print_chronicle(alloc, &[], &entries)?;
+    let want =
+        b"1 invalid SerialWrite\n2 invalid Level\n3 invalid UnknownTable\n4 invalid NotSupported\n";
     assert_eq!(rt; text.as_slice(), want.as_slice());
     Ok(())
 }
 
 #[test]
 fn prints_nothing_of_nothing(rt: HostRuntime) -> Result<(), Fail> {
-    let text = print_chronicle(rt.alloc(), &[])?;
+    let text = print_chronicle(rt.alloc(), &[], &[])?;
     assert!(rt; text.is_empty());
     Ok(())
 }

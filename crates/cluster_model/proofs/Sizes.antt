@@ -128,9 +128,11 @@ begins_costs : (c : Setting) (request : ReqId) (plan : Plan) (l : Level) (s : No
 begins_costs c request (plan.Write draft) l s o s' few h =
     let sent = weight_sent request (Write (mutation_of request draft)) 7 (replicas_of c draft.partition) (omega arith) (replicas_few c draft.partition few) in
     subst (λ (e : Effects). weight e ≤ 22) (sym h.0) (omega (arith, sent))
-begins_costs c request (plan.Read q) l s o s' few h =
+begins_costs c request (plan.Read q columns) l s o s' few h =
     let sent = weight_sent request (Read q) 7 (replicas_of c q.partition) (omega arith) (replicas_few c q.partition few) in
     subst (λ (e : Effects). weight e ≤ 22) (sym h.0) (omega (arith, sent))
+begins_costs c request (plan.Use keyspace) l s o s' few h = subst (λ (e : Effects). weight e ≤ 22) (sym h.0) (omega arith)
+begins_costs c request (plan.Invalid fault) l s o s' few h = absurd h
 
 asked_costs : (c : Setting) (request : ReqId) (plan : Plan) (l : Level) (r : Option Refusal) (s : NodeState) (o : Effects) (s' : NodeState) → length c.ring ≤ 7 → BeginsOrRefuses c request plan l r s o s' → weight o ≤ 22
 asked_costs c request plan l None s o s' few h = begins_costs c request plan l s o s' few h

@@ -4,6 +4,7 @@ use crate::{Cluster, ClusterEvent};
 use changes::{Bound, Draft, DraftMutation, Partition, Place, Query};
 use cs_base::{Bytes, Items, Level, NodeId};
 use peer_messages::{Ask, Entry, Plan, Setting, TableSetting};
+use statement_plan::Columns;
 use std::alloc::{AllocError, Global};
 use std::test::Fail;
 use token_ring::Ring;
@@ -52,13 +53,14 @@ fn bound(alloc: Global, after: bool) -> Result<Bound, AllocError> {
 }
 
 fn read(alloc: Global) -> Result<Plan, AllocError> {
-    Ok(Plan::Read(Query {
+    let query = Query {
         partition: partition(alloc)?,
         from: bound(alloc, false)?,
         upto: bound(alloc, true)?,
         reversed: false,
         limit: 9,
-    }))
+    };
+    Ok(Plan::Read(query, Columns::Count))
 }
 
 /// A client of the node asks this at QUORUM.

@@ -1,5 +1,6 @@
 -- The run of a script goes on by one event, and no event changes the setting.
-use Rattle.std.proofs.Common.{◌≡◌, ℕ, zero, suc, Bool, true, false, Option, Some, None, List, [], ◌∷◌, ◌++◌, refl, sym, ap, subst, ◌∙◌}
+use Rattle.std.proofs.Common.{◌≡◌, ℕ, zero, suc, Bool, true, false, Option, Some, None, List, [], ◌∷◌, ◌++◌, refl, sym, ap, subst, ◌∙◌, append_assoc, reverse}
+use Rattle.std.proofs.lemmas.List.{append-nil, reverse-append}
 use Rattle.std.specs.Prelude.{Result, Ok, Err, IfOk, MatchBool, nat_lt, slice_get}
 use Rattle.peer_messages.specs.declared.message.Message.{Message}
 use Rattle.peer_messages.specs.declared.event.What.{What}
@@ -8,21 +9,40 @@ use Rattle.peer_messages.specs.declared.setting.Setting.{Setting}
 use Rattle.node_steps.specs.State.{NodeState}
 use Rattle.node_steps.specs.Steps.{time_after, end_of_time}
 use Rattle.read_consistency.specs.ReadRight.{ReadRight}
-use Rattle.chronicle_print.specs.Printed.{printed}
+use Rattle.chronicle_print.specs.Printed.{IsInPrint}
+use Rattle.schema_book.specs.Books.{Book}
+use Rattle.schema_book.specs.declared.table.Table.{Table}
+use Rattle.peer_messages.specs.declared.chronicle.Entry.{Entry}
 use Rattle.cluster_model.specs.State.{ClusterState, IsReached, fresh_cluster, place_of, oldest_from, passed_over}
-use Rattle.cluster_model.specs.Takes.{Comes, ComesAt, StepsAt, Arrives, Delivers, Settles, Takes, event_of as what_event, not_stepped, lost}
+use Rattle.cluster_model.specs.Takes.{ComesAt, StepsAt, Arrives, Delivers, Settles, Takes, event_of as what_event, not_stepped, lost}
 use Rattle.cluster_model.specs.declared.event.ClusterEvent.{ClusterEvent}
 use Rattle.cluster_model.specs.declared.event.ClusterEvent.TheVariants as event
 use Rattle.fault_script.specs.declared.script.Script.{Script}
 use Rattle.fault_script.specs.declared.script.ScriptEvent.{ScriptEvent}
-use Rattle.cluster_program.specs.Requests.{event_of, setting_of}
-use Rattle.cluster_program.specs.Runs.{Plays, IsRunInPrint}
+use Rattle.cluster_program.specs.Requests.{IsEventOf, setting_of}
+use Rattle.cluster_program.specs.Runs.{named_by, keyspace_after, Plays, IsRunInPrint}
 
 -- ---- one event more
 
-pub plays_more : (v mid v' : ClusterState) (es : List ScriptEvent) (e : ScriptEvent) → Plays v es mid → Takes mid (event_of e) v' → Plays v (es ++ e ∷ []) v'
-plays_more v mid v' [] e h takes = (v', subst (λ (x : ClusterState). Takes x (event_of e) v') h takes, refl)
-plays_more v mid v' (x ∷ es) e (next, first, rest) takes = (next, first, plays_more next mid v' es e rest takes)
+-- what is played from here on is played from the beginning
+abbrev pub PlaysOn : Book → ClusterState → List ScriptEvent → Option (List ℕ) → ClusterState → Type 0
+PlaysOn book start done keyspace v = (rest : List ScriptEvent) (v' : ClusterState) → Plays book keyspace v rest v' → Plays book None start (done ++ rest) v'
+
+pub plays_none : (book : Book) (start : ClusterState) → PlaysOn book start [] None start
+plays_none book start rest v' h = h
+
+pub plays_more : (book : Book) (start v mid : ClusterState) (done : List ScriptEvent) (keyspace : Option (List ℕ)) (e : ScriptEvent) (event : ClusterEvent) → PlaysOn book start done keyspace v
+    → IsEventOf book keyspace e event → Takes v event mid → PlaysOn book start (done ++ e ∷ []) (keyspace_after keyspace mid.chronicle) mid
+plays_more book start v mid done keyspace e event h is takes rest v' later =
+    subst (λ (es : List ScriptEvent). Plays book None start es v') (sym (append_assoc done (e ∷ []) rest)) (h (e ∷ rest) v' (event, mid, is, takes, later))
+
+pub plays_all : (book : Book) (start v : ClusterState) (done : List ScriptEvent) (keyspace : Option (List ℕ)) → PlaysOn book start done keyspace v → Plays book None start done v
+plays_all book start v done keyspace h = subst (λ (es : List ScriptEvent). Plays book None start es v) (append-nil done) (h [] v refl)
+
+-- ---- the keyspace in use
+
+pub named_last : (xs : List Entry) (x : Entry) (keyspace : Option (List ℕ)) → keyspace_after keyspace (reverse (xs ++ x ∷ [])) ≡ named_by x keyspace
+named_last xs x keyspace = ap (keyspace_after keyspace) (reverse-append xs (x ∷ []))
 
 -- ---- the setting stays
 
@@ -67,23 +87,24 @@ takes_stays (event.Deliver from upto k) v v' h = delivers_stays (place_of from u
 takes_stays (event.Lose from upto k) v v' h = same_stays (lost v (place_of from upto k v.post.sent)) v' h ∙ lost_stays (place_of from upto k v.post.sent) v
 takes_stays (event.Settle n) v v' h = settles_stays n v v' h
 
-pub plays_stays : (es : List ScriptEvent) (v v' : ClusterState) → Plays v es v' → Stays v v'
-plays_stays [] v v' h = same_stays v v' h
-plays_stays (e ∷ es) v v' (mid, first, rest) = plays_stays es mid v' rest ∙ takes_stays (event_of e) v mid first
+pub plays_stays : (book : Book) (es : List ScriptEvent) (keyspace : Option (List ℕ)) (v v' : ClusterState) → Plays book keyspace v es v' → Stays v v'
+plays_stays book [] keyspace v v' h = same_stays v v' h
+plays_stays book (e ∷ es) keyspace v v' (event, mid, is, first, rest) = plays_stays book es (keyspace_after keyspace mid.chronicle) mid v' rest ∙ takes_stays event v mid first
 
 -- ---- the whole run
 
-pub in_print : (script : Script) (text : List ℕ) (c : Setting) (before after : ClusterState) (es : List ScriptEvent) → c ≡ setting_of script → before ≡ fresh_cluster c → es ≡ script.events → Plays before es after
-    → IsReached after → ReadRight after.setting after.chronicle → text ≡ printed after.chronicle → IsRunInPrint script text
-in_print script text c before after es setting fresh events plays reached right print =
-    let from : Plays (fresh_cluster (setting_of script)) script.events after =
-    subst (λ (d : Setting). Plays (fresh_cluster d) script.events after) setting (subst (λ (v : ClusterState). Plays v script.events after) fresh (subst (λ (xs : List ScriptEvent). Plays before xs after) events plays)) in
+pub in_print : (script : Script) (text : List ℕ) (tables : List Table) (c : Setting) (before after : ClusterState) (es : List ScriptEvent) → c ≡ setting_of script → before ≡ fresh_cluster c → es ≡ script.events → tables ≡ script.schema.tables
+    → Plays script.schema None before es after → IsReached after → ReadRight after.setting after.chronicle → IsInPrint tables after.chronicle text → IsRunInPrint script text
+in_print script text tables c before after es setting fresh events same plays reached right print =
+    let from : Plays script.schema None (fresh_cluster (setting_of script)) script.events after =
+    subst (λ (d : Setting). Plays script.schema None (fresh_cluster d) script.events after) setting
+    (subst (λ (v : ClusterState). Plays script.schema None v script.events after) fresh (subst (λ (xs : List ScriptEvent). Plays script.schema None before xs after) events plays)) in
     record {
       after = after;
       plays = from;
       reached = reached;
-      right = subst (λ (d : Setting). ReadRight d after.chronicle) (plays_stays script.events (fresh_cluster (setting_of script)) after from) right;
-      print = print;
+      right = subst (λ (d : Setting). ReadRight d after.chronicle) (plays_stays script.schema script.events None (fresh_cluster (setting_of script)) after from) right;
+      print = subst (λ (ts : List Table). IsInPrint ts after.chronicle text) same print;
     }
 
 pub if_ok_more : {T E : Type 0} {P Q : T → Type 0} (r : Result T E) → IfOk r P → ((t : T) → P t → Q t) → IfOk r Q

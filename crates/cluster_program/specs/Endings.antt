@@ -5,9 +5,9 @@ use Rattle.cs_base.specs.Faults.{HasRisen}
 use Rattle.fault_script.specs.declared.script.Script.{Script}
 use Rattle.fault_script.specs.declared.script.ScriptError.{ScriptError}
 use Rattle.fault_script.specs.declared.script.ScriptError.TheVariants as refused
-use Rattle.fault_script.specs.declared.reader.ParseError.{ParseError}
-use Rattle.fault_script.specs.declared.reader.ParseError.TheVariants as parse
-use Rattle.fault_script.specs.Script.{script_of}
+use Rattle.fault_script.specs.declared.error.ParseError.{ParseError}
+use Rattle.fault_script.specs.declared.error.ParseError.TheVariants as parse
+use Rattle.fault_script.specs.Script.{IsRead}
 use Rattle.cluster_program.specs.declared.program.Refusal.{Refusal}
 use Rattle.cluster_program.specs.declared.program.Refusal.TheVariants as refusal
 use Rattle.cluster_program.specs.declared.program.Status.{Status}
@@ -23,17 +23,19 @@ command = codes "script" ∷ []
 
 -- the bytes are a script, and the text is the printed chronicle of a run of it
 abbrev pub IsRunOf : List ℕ → List ℕ → Type 0
-IsRunOf bytes text = (script : Script) × (script_of bytes ≡ Ok script) × IsRunInPrint script text
+IsRunOf bytes text = (script : Script) × IsRead bytes (Ok script) × IsRunInPrint script text
 
 abbrev pub error_line : ScriptError → List ℕ
 error_line (refused.Head n) = decimal n ++ codes ": head expected" ++ 10 ∷ []
 error_line (refused.Line n) = decimal n ++ codes ": line not understood" ++ 10 ∷ []
 error_line (refused.Number n) = decimal n ++ codes ": number out of range" ++ 10 ∷ []
+error_line (refused.Cql n at) = decimal n ++ codes ": cql refused at " ++ decimal at ++ 10 ∷ []
 error_line refused.TooLong = codes "script too long" ++ 10 ∷ []
+error_line refused.TooMany = codes "too many lines" ++ 10 ∷ []
 
 -- what a refusal says of the bytes that were left
 abbrev pub IsRefused : List ℕ → Refusal → Type 0
-IsRefused left (refusal.Script e) = script_of left ≡ Err e
+IsRefused left (refusal.Script e) = IsRead left (Err e)
 IsRefused left refusal.ReadFault = Unit {0}
 IsRefused left refusal.NoMemory = Unit {0}
 

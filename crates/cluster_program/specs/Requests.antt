@@ -1,67 +1,109 @@
--- What the lines of a script ask of a cluster, which has the one table `script.kv (k text, c text, v text, PRIMARY KEY (k, c))`.
-use Rattle.std.specs.Prelude.{ℕ, ◌^◌, ◌-◌, ◌==◌, if◌then◌else◌, true, false, Some, List, [], ◌∷◌, ◌++◌, flat_map}
-use Rattle.token_ring.specs.Murmur.{token_of}
-use Rattle.changes.specs.declared.Partition.{Partition}
-use Rattle.changes.specs.declared.Place.TheVariants.{Cell}
-use Rattle.changes.specs.declared.Draft.{Draft}
-use Rattle.changes.specs.declared.DraftMutation.{DraftMutation}
-use Rattle.changes.specs.declared.Query.{Query}
-use Rattle.peer_messages.specs.declared.event.Ask.{Ask}
-use Rattle.peer_messages.specs.declared.event.Plan.TheVariants.{Write, Read}
+-- What the lines of a script ask of a cluster.
+use Rattle.std.specs.Prelude.{◌≡◌, ◌⊎◌, ℕ, ℤ, Option, Some, None, List, [], ◌∷◌, map, codes}
+use Rattle.cql_values.specs.Literals.{literal_text}
+use Rattle.cql_values.specs.declared.value.CqlValue.TheVariants as values
+use Rattle.cql_values.specs.declared.value.LiteralKind.TheVariants as kinds
+use Rattle.cql_statement.specs.declared.term.Term.{Term}
+use Rattle.cql_statement.specs.declared.term.Term.TheVariants.{Constant}
+use Rattle.cql_statement.specs.declared.term.TableName.{TableName}
+use Rattle.cql_statement.specs.declared.term.Relation.{Relation}
+use Rattle.cql_statement.specs.declared.term.RelationOperator.TheVariants.{Equal}
+use Rattle.cql_statement.specs.declared.select.Selection.TheVariants as selection
+use Rattle.cql_statement.specs.declared.statement.Statement.{Statement}
+use Rattle.cql_statement.specs.declared.statement.Statement.TheVariants as statement
+use Rattle.schema_book.specs.Books.{Book}
+use Rattle.schema_book.specs.declared.table.Table.{Table}
+use Rattle.statement_values.specs.declared.params.Params.{Params}
+use Rattle.statement_values.specs.declared.params.Params.TheVariants.{ByPlace}
+use Rattle.statement_plan.specs.declared.fault.Fault.{Fault}
+use Rattle.statement_plan.specs.declared.fault.Fault.TheVariants as fault
+use Rattle.statement_plan.specs.declared.fault.Feature.TheVariants as feature
+use Rattle.statement_plan.specs.declared.plan.Plan.{Plan}
+use Rattle.statement_plan.specs.declared.plan.Plan.TheVariants as bound
+use Rattle.statement_binder.specs.Meanings.{meaning_of, IsPlan, IsRefusal}
+use Rattle.peer_messages.specs.declared.event.Plan.{Plan as NodePlan}
+use Rattle.peer_messages.specs.declared.event.Plan.TheVariants as plan
 use Rattle.peer_messages.specs.declared.setting.Setting.{Setting}
+use Rattle.peer_messages.specs.declared.setting.TableSetting.{TableSetting}
 use Rattle.cluster_model.specs.declared.event.ClusterEvent.{ClusterEvent}
 use Rattle.cluster_model.specs.declared.event.ClusterEvent.TheVariants as cluster
+use Rattle.fault_script.specs.Script.{IsOneStatement}
 use Rattle.fault_script.specs.declared.script.Script.{Script}
 use Rattle.fault_script.specs.declared.script.PutRequest.{PutRequest}
 use Rattle.fault_script.specs.declared.script.GetRequest.{GetRequest}
 use Rattle.fault_script.specs.declared.script.ScriptEvent.{ScriptEvent}
-use Rattle.fault_script.specs.declared.script.ScriptEvent.TheVariants.{Put, Get, Deliver, Drop, Settle}
+use Rattle.fault_script.specs.declared.script.ScriptEvent.TheVariants as line
 
--- a node for each token, and the one table
+abbrev pub table_setting : Table → TableSetting
+table_setting table = record { factor = table.factor }
+
+-- a node for each token, and the tables of the schema
 abbrev pub setting_of : Script → Setting
-setting_of script = record { ring = script.ring; tables = record { factor = script.factor } ∷ [] }
+setting_of script = record { ring = script.ring; tables = map table_setting script.schema.tables }
 
--- the order bytes of a text: each 0 is written 0 255, and 0 0 ends it
-abbrev pub order_byte : ℕ → List ℕ
-order_byte b = if b == 0 then 0 ∷ 255 ∷ [] else b ∷ []
+-- ---- `put` and `get` are statements on script.kv
 
-abbrev pub text_order : List ℕ → List ℕ
-text_order text = flat_map order_byte text ++ 0 ∷ 0 ∷ []
+abbrev pub kv_table : TableName
+kv_table = record { keyspace = Some (codes "script"); name = codes "kv" }
 
--- the partition of a key of the table, which has number 0
-abbrev pub kv_partition : List ℕ → Partition
-kv_partition key = record { table = 0; token = token_of key; key = key }
+-- a text as a constant: in single quotes, which are doubled inside
+abbrev pub text_term : List ℕ → Term
+text_term text = Constant (record { kind = kinds.Str; text = literal_text (values.Text text) })
 
--- the column v
-abbrev pub value_column : ℕ
-value_column = 2
+abbrev pub number_term : ℤ → Term
+number_term number = Constant (record { kind = kinds.Whole; text = literal_text (values.Bigint number) })
 
-abbrev pub put_draft : PutRequest → Draft
-put_draft put = record { place = Cell (text_order put.row) value_column; value = Some put.value; timestamp = Some put.timestamp }
+abbrev pub equals : List ℕ → List ℕ → Relation
+equals column text = record { column = column; operator = Equal; term = text_term text }
 
-abbrev pub put_drafts : PutRequest → DraftMutation
-put_drafts put = record { partition = kv_partition put.key; changes = put_draft put ∷ [] }
+-- UPDATE script.kv USING TIMESTAMP <timestamp> SET v = <value> WHERE k = <key> AND c = <row>
+abbrev pub put_statement : PutRequest → Statement
+put_statement put = statement.Update (record {
+  table = kv_table;
+  stamp = Some (record { timestamp = number_term put.timestamp });
+  assignments = record { column = codes "v"; term = text_term put.value } ∷ [];
+  relations = equals (codes "k") put.key ∷ equals (codes "c") put.row ∷ [];
+  condition = None;
+})
 
--- all rows of a partition
-abbrev pub all_rows : Partition → Query
-all_rows partition = record {
-  partition = partition;
-  from = record { at = []; after = false };
-  upto = record { at = []; after = true };
-  reversed = false;
-  limit = 2 ^ 32 - 1;
-}
+-- SELECT c, v FROM script.kv WHERE k = <key>
+abbrev pub get_statement : GetRequest → Statement
+get_statement get = statement.Select (record {
+  selection = selection.Columns (codes "c" ∷ codes "v" ∷ []);
+  table = kv_table;
+  relations = equals (codes "k") get.key ∷ [];
+  orders = [];
+  limit = None;
+})
 
-abbrev pub put_ask : PutRequest → Ask
-put_ask put = record { plan = Write (put_drafts put); level = put.level }
+-- ---- what a statement asks of a node
 
-abbrev pub get_ask : GetRequest → Ask
-get_ask get = record { plan = Read (all_rows (kv_partition get.key)); level = get.level }
+-- a script gives no values
+abbrev pub no_values : Params
+no_values = ByPlace []
+
+-- what the node is asked; it has no conditional operations yet
+abbrev pub asked_of : Plan → NodePlan
+asked_of (bound.Write mutation) = plan.Write mutation
+asked_of (bound.Read query columns) = plan.Read query columns
+asked_of (bound.Conditional operation) = plan.Invalid (fault.NotSupported feature.Condition)
+asked_of (bound.Use keyspace) = plan.Use keyspace
+
+-- the statement's plan, or its refusal, for a schema and the keyspace in use
+abbrev pub AsksFor : Book → Option (List ℕ) → Statement → NodePlan → Type 0
+AsksFor book keyspace s p =
+    ((b : Plan) × IsPlan b (meaning_of book keyspace no_values None s) × (p ≡ asked_of b))
+    ⊎ ((f : Fault) × IsRefusal f (meaning_of book keyspace no_values None s) × (p ≡ plan.Invalid f))
 
 -- what a line does to the cluster
-abbrev pub event_of : ScriptEvent → ClusterEvent
-event_of (Put put) = cluster.Ask put.node (put_ask put)
-event_of (Get get) = cluster.Ask get.node (get_ask get)
-event_of (Deliver place) = cluster.Deliver place.from place.upto place.number
-event_of (Drop place) = cluster.Lose place.from place.upto place.number
-event_of (Settle count) = cluster.Settle count
+abbrev pub IsEventOf : Book → Option (List ℕ) → ScriptEvent → ClusterEvent → Type 0
+IsEventOf book keyspace (line.Put put) e =
+    (p : NodePlan) × AsksFor book keyspace (put_statement put) p × (e ≡ cluster.Ask put.node (record { plan = p; level = put.level }))
+IsEventOf book keyspace (line.Get get) e =
+    (p : NodePlan) × AsksFor book keyspace (get_statement get) p × (e ≡ cluster.Ask get.node (record { plan = p; level = get.level }))
+IsEventOf book keyspace (line.Cql request) e =
+    (s : Statement) × IsOneStatement request.text s
+    × ((p : NodePlan) × AsksFor book keyspace s p × (e ≡ cluster.Ask request.node (record { plan = p; level = request.level })))
+IsEventOf book keyspace (line.Deliver place) e = e ≡ cluster.Deliver place.from place.upto place.number
+IsEventOf book keyspace (line.Drop place) e = e ≡ cluster.Lose place.from place.upto place.number
+IsEventOf book keyspace (line.Settle count) e = e ≡ cluster.Settle count

@@ -4,6 +4,7 @@
 mod program;
 mod requests;
 mod run;
+mod statements;
 mod streams;
 #[cfg(test)]
 mod tests;

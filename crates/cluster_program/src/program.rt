@@ -1,10 +1,10 @@
 //! The top call, and how it ends.
 
-ghost use Rattle.std.specs.Prelude.{◌≡◌, ◌≢◌, ◌⊎◌, ◌↔◌, ◌≤◌, ◌++◌, ◌∷◌, [], ℕ, List, Ok, map, codes, Some, Err, IsTrue, IfOk, IfErr, OnOk, IfSome, IsErrOf};
+ghost use Rattle.std.specs.Prelude.{All, ◌≡◌, ◌≢◌, ◌⊎◌, ◌↔◌, ◌≤◌, ◌++◌, ◌∷◌, [], ℕ, List, Ok, map, codes, Some, Err, IsTrue, IfOk, IfErr, OnOk, IfSome, IsErrOf};
 ghost use Rattle.std.specs.Fmt.{decimal};
 ghost use Rattle.std.specs.String.{string_bytes};
 ghost use Rattle.cs_base.specs.Faults.{HasRisen};
-ghost use Rattle.fault_script.specs.Script.{script_of};
+ghost use Rattle.fault_script.specs.Script.{IsRead, IsSaid};
 ghost use Rattle.fault_script.specs.declared.script.Script.{Script as script_value};
 ghost use Rattle.fault_script.specs.declared.script.ScriptError.{ScriptError};
 ghost use Rattle.cluster_program.specs.Endings.{command, IsRunOf, LeavesLine, RefusesScript, IsRefusalStatus, IsRefusedWith, IsServedWith, IsRefused, of_read, of_parse, error_line as error_line_of};
@@ -15,7 +15,7 @@ use crate::run::run;
 use crate::streams::{ReadError, read_all, write_all};
 use cs_base::Failed;
 use cs_io::{Sink, Source};
-use fault_script::{ParseError, Script, ScriptError, parse};
+use fault_script::{ParseError, Script, ScriptError, one_reading, parse, statements_are_read};
 use std::alloc::{AllocError, Global};
 
 /// How the program ended. `script` never ends with `StoreFault`, `DoorFault`, `NoThread`, `HistoryFull` or `Damaged`,
@@ -98,11 +98,13 @@ impl From<ParseError> for Refusal {
 
 /// The script that the source has left, read to its end.
 fn read_script<S: Source>(alloc: Global, source: &mut S) -> Result<Script, Refusal>
-    ensures script { IfOk result (λ script. IfSome (S.remaining source.old) (λ left. script_of left ≡ Ok script)) }
+    ensures script { IfOk result (λ script. IfSome (S.remaining source.old) (λ left. IsRead left (Ok script))) }
     ensures end { OnOk result (IfSome (S.remaining source.old) (λ _. S.remaining source.new ≡ Some [])) }
     ensures refused { IfErr result (λ r. IfSome (S.remaining source.old) (λ left. IsRefused left r)) }
+    ensures said { IfOk result (λ script. All IsSaid script.events) }
     ensures failed { IsErrOf result Refusal.ReadFault → HasRisen (S.faults source.old) (S.faults source.new) }
 {
+    statements_are_read();
     let text = read_all(alloc, source)?;
     Ok(parse(alloc, &text)?)
 }
@@ -141,26 +143,39 @@ fn push_number(alloc: Global, out: &mut Vec<u8>, number: u64) -> Result<(), Allo
     out.extend_from_slice(digits.as_bytes())
 }
 
+/// The line of a refusal that has a number.
+fn numbered_line(alloc: Global, number: u64, text: &str) -> Result<Vec<u8>, AllocError>
+    ensures { IfOk result (λ line. line.items ≡ decimal number ++ (text.now ++ 10 ∷ [])) }
+{
+    let mut line = Vec::new(alloc);
+    push_number(alloc, &mut line, number)?;
+    line.extend_from_slice(text.as_bytes())?;
+    line.push(b'\n')?;
+    Ok(line)
+}
+
+fn cql_line(alloc: Global, number: u64, at: usize) -> Result<Vec<u8>, AllocError>
+    ensures { IfOk result (λ line. line.items ≡ error_line_of (ScriptError.Cql number at)) }
+{
+    let mut line = Vec::new(alloc);
+    push_number(alloc, &mut line, number)?;
+    line.extend_from_slice(b": cql refused at ")?;
+    push_number(alloc, &mut line, at as u64)?;
+    line.push(b'\n')?;
+    Ok(line)
+}
+
 fn error_line(alloc: Global, error: ScriptError) -> Result<Vec<u8>, AllocError>
     ensures { IfOk result (λ line. line.items ≡ error_line_of error) }
 {
-    let mut line = Vec::new(alloc);
     match error {
-        ScriptError::Head(number) => {
-            push_number(alloc, &mut line, number)?;
-            line.extend_from_slice(b": head expected\n")?;
-        }
-        ScriptError::Line(number) => {
-            push_number(alloc, &mut line, number)?;
-            line.extend_from_slice(b": line not understood\n")?;
-        }
-        ScriptError::Number(number) => {
-            push_number(alloc, &mut line, number)?;
-            line.extend_from_slice(b": number out of range\n")?;
-        }
-        ScriptError::TooLong => line.extend_from_slice(b"script too long\n")?,
+        ScriptError::Head(number) => numbered_line(alloc, number, ": head expected"),
+        ScriptError::Line(number) => numbered_line(alloc, number, ": line not understood"),
+        ScriptError::Number(number) => numbered_line(alloc, number, ": number out of range"),
+        ScriptError::Cql(number, at) => cql_line(alloc, number, at),
+        ScriptError::TooLong => Vec::from_slice(alloc, b"script too long\n"),
+        ScriptError::TooMany => Vec::from_slice(alloc, b"too many lines\n"),
     }
-    Ok(line)
 }
 
 /// Tells why the text is no script, or that there is no memory to tell it.
@@ -213,15 +228,16 @@ pub fn run_cluster<S: Source, T: Sink>(
     ensures usage_line { result ≡ Status.Usage → LeavesLine (T.contents sink.old) (T.contents sink.new) (T.faults sink.old) (T.faults sink.new) (codes "usage: script\n") }
     ensures ok { result ≡ Status.Ok → IfSome (S.remaining source.old) (λ left. (text : List ℕ) × IsRunOf left text × WritesAll (T.contents sink.old) (T.contents sink.new) text) }
     ensures end { result ≡ Status.Ok → IfSome (S.remaining source.old) (λ _. S.remaining source.new ≡ Some []) }
-    ensures bad_script { result ≡ Status.BadScript → IfSome (S.remaining source.old) (λ left. (error : ScriptError) × (script_of left ≡ Err error) × LeavesLine (T.contents sink.old) (T.contents sink.new) (T.faults sink.old) (T.faults sink.new) (error_line_of error)) }
+    ensures bad_script { result ≡ Status.BadScript → IfSome (S.remaining source.old) (λ left. (error : ScriptError) × IsRead left (Err error) × LeavesLine (T.contents sink.old) (T.contents sink.new) (T.faults sink.old) (T.faults sink.new) (error_line_of error)) }
     ensures read_fault { result ≡ Status.ReadFault → HasRisen (S.faults source.old) (S.faults source.new) × LeavesLine (T.contents sink.old) (T.contents sink.new) (T.faults sink.old) (T.faults sink.new) (codes "read fault\n") }
     ensures write_fault { result ≡ Status.WriteFault → HasRisen (T.faults sink.old) (T.faults sink.new) }
     ensures written { result ≡ Status.WriteFault → IfSome (S.remaining source.old) (λ left. (text : List ℕ) × IsRunOf left text × WritesFront (T.contents sink.old) (T.contents sink.new) text) }
     ensures statuses { (result ≡ Status.Ok) ⊎ (result ≡ Status.Usage) ⊎ (result ≡ Status.WriteFault) ⊎ IsRefusalStatus result }
-    ensures refused { IfSome (S.remaining source.old) (λ left. (error : ScriptError) → script_of left ≡ Err error → map string_bytes words.now ≡ command → IsRefusedWith result) }
-    ensures served { IfSome (S.remaining source.old) (λ left. (script : script_value) → script_of left ≡ Ok script → map string_bytes words.now ≡ command → IsServedWith result) }
+    ensures refused { IfSome (S.remaining source.old) (λ left. (error : ScriptError) → IsRead left (Err error) → map string_bytes words.now ≡ command → IsRefusedWith result) }
+    ensures served { IfSome (S.remaining source.old) (λ left. (script : script_value) → IsRead left (Ok script) → map string_bytes words.now ≡ command → IsServedWith result) }
     ensures no_memory { result ≡ Status.NoMemory → LeavesLine (T.contents sink.old) (T.contents sink.new) (T.faults sink.old) (T.faults sink.new) (codes "no memory\n") }
 {
+    one_reading();
     if !is_command(words) {
         leave_line(sink, b"usage: script\n");
         return Status::Usage;

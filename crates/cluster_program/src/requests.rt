@@ -1,135 +1,151 @@
 //! What the lines of a script ask of a cluster.
 
-ghost use Rattle.std.specs.Prelude.{◌≡◌, IfOk};
-ghost use Rattle.cluster_program.specs.Requests.{setting_of as setting_of_script, text_order as text_order_of, kv_partition, put_draft, put_drafts, all_rows as all_rows_of, put_ask as put_ask_of, get_ask as get_ask_of, event_of as event_of_line};
+ghost use Rattle.std.specs.Prelude.{◌≡◌, ℕ, List, map, IfOk, option_copied};
+ghost use Rattle.cql_statement.specs.declared.statement.Statement.{Statement as statement_value};
+ghost use Rattle.fault_script.specs.Script.{IsOneStatement, IsSaid};
+ghost use Rattle.cluster_program.specs.Requests.{table_setting, setting_of as setting_of_script, put_statement, get_statement, asked_of, AsksFor, IsEventOf};
 
-use changes::{Bound, Draft, DraftMutation, Partition, Place, Query};
+use crate::statements::{statement_of_get, statement_of_put};
 use cluster_model::ClusterEvent;
-use cs_base::{Bytes, Items};
-use fault_script::{GetRequest, PutRequest, Script, ScriptEvent};
-use peer_messages::{Ask, Plan, Setting, TableSetting};
+use cql_parser::{ParseError, parse};
+use cql_statement::Statement;
+use cs_base::Items;
+use fault_script::{CqlRequest, GetRequest, PutRequest, Script, ScriptEvent};
+use peer_messages::{Ask, Plan, Setting, TableSetting, TableSettings};
+use schema_book::{Schema, Table};
+use statement_binder::{BindError, bind};
+use statement_plan::{Fault, Feature};
+use statement_values::Params;
 use std::alloc::{AllocError, Global};
-use token_ring::token;
 
-/// The number of the table `script.kv`.
-const TABLE: u16 = 0;
-
-/// The number of its column `v`.
-const VALUE_COLUMN: u8 = 2;
-
-/// How many rows a read without LIMIT gives at the most.
-const NO_LIMIT: u32 = u32::MAX;
+fn table_settings(alloc: Global, tables: &[Table]) -> Result<TableSettings, AllocError>
+    ensures { IfOk result (λ settings. settings ≡ map table_setting tables.now) }
+{
+    let mut settings = Items::new(alloc);
+    for table in tables {
+        settings.push(TableSetting {
+            factor: table.factor,
+        })?;
+    }
+    Ok(settings)
+}
 
 /// The cluster that a script runs on.
 pub fn setting_of(alloc: Global, script: &Script) -> Result<Setting, AllocError>
     ensures { IfOk result (λ setting. setting ≡ setting_of_script script.now) }
 {
-    let mut tables = Items::new(alloc);
-    tables.push(TableSetting {
-        factor: script.factor,
-    })?;
     Ok(Setting {
         ring: script.ring,
-        tables,
+        tables: table_settings(alloc, script.schema.tables())?,
     })
 }
 
-/// The order bytes of a text: each 0 is written 0 255, and 0 0 ends it.
-fn text_order(alloc: Global, text: &[u8]) -> Result<Bytes, AllocError>
-    ensures { IfOk result (λ order. order ≡ text_order_of text.now) }
+/// What a node is asked for a plan.
+fn asked(plan: statement_plan::Plan) -> Plan
+    ensures { result ≡ asked_of plan }
 {
-    let mut order = Vec::new(alloc);
-    for b in text {
-        order.push(*b)?;
-        if *b == 0 {
-            order.push(255)?;
+    match plan {
+        statement_plan::Plan::Write(mutation) => Plan::Write(mutation),
+        statement_plan::Plan::Read(query, columns) => Plan::Read(query, columns),
+        statement_plan::Plan::Conditional(_) => {
+            Plan::Invalid(Fault::NotSupported(Feature::Condition))
         }
+        statement_plan::Plan::Use(keyspace) => Plan::Use(keyspace),
     }
-    order.extend_from_slice(&[0, 0])?;
-    Ok(Bytes::from_vec(order))
 }
 
-fn partition_of(alloc: Global, key: &Bytes) -> Result<Partition, AllocError>
-    ensures { IfOk result (λ partition. partition ≡ kv_partition key.now) }
+/// What a node is asked for a statement, in a schema and with a keyspace in use.
+fn plan_of(
+    alloc: Global,
+    schema: &Schema,
+    keyspace: Option<&str>,
+    statement: &Statement,
+) -> Result<Plan, AllocError>
+    ensures { IfOk result (λ plan. AsksFor schema.now (option_copied keyspace.entry) statement.now plan) }
 {
-    Ok(Partition {
-        table: TABLE,
-        token: token(key.as_slice()),
-        key: key.copy(alloc)?,
-    })
+    let no_values = Params::ByPlace(Items::new(alloc));
+    match bind(alloc, schema, keyspace, statement, &no_values, None) {
+        Ok(plan) => Ok(asked(plan)),
+        Err(BindError::Refused(fault)) => Ok(Plan::Invalid(fault)),
+        Err(BindError::NoMemory) => Err(AllocError),
+    }
 }
 
-fn draft_of(alloc: Global, put: &PutRequest) -> Result<Draft, AllocError>
-    ensures { IfOk result (λ draft. draft ≡ put_draft put.now) }
+/// The statement of a line `cql`, whose text was read as one before.
+fn statement_of(alloc: Global, text: &str) -> Result<Statement, AllocError>
+    requires { (s : statement_value) × IsOneStatement text.now s }
+    ensures { IfOk result (IsOneStatement text.now) }
 {
-    let row = text_order(alloc, put.row.as_slice())?;
-    let value = put.value.copy(alloc)?;
-    Ok(Draft {
-        place: Place::Cell(row, VALUE_COLUMN),
-        value: Some(value),
-        timestamp: Some(put.timestamp),
-    })
+    match parse(alloc, text) {
+        Ok(statement) => Ok(statement),
+        Err(ParseError::NoMemory) => Err(AllocError),
+        Err(_) => unreachable!(),
+    }
 }
 
-fn drafts_of(alloc: Global, put: &PutRequest) -> Result<DraftMutation, AllocError>
-    ensures { IfOk result (λ drafts. drafts ≡ put_drafts put.now) }
+fn put_event(
+    alloc: Global,
+    schema: &Schema,
+    keyspace: Option<&str>,
+    put: &PutRequest,
+) -> Result<ClusterEvent, AllocError>
+    ensures { IfOk result (IsEventOf schema.now (option_copied keyspace.entry) (ScriptEvent.Put put.now)) }
 {
-    let mut changes = Items::new(alloc);
-    changes.push(draft_of(alloc, put)?)?;
-    Ok(DraftMutation {
-        partition: partition_of(alloc, &put.key)?,
-        changes,
-    })
+    let statement = statement_of_put(alloc, put)?;
+    let plan = plan_of(alloc, schema, keyspace, &statement)?;
+    let level = put.level;
+    Ok(ClusterEvent::Ask(put.node, Ask { plan, level }))
 }
 
-fn all_rows(alloc: Global, partition: Partition) -> Result<Query, AllocError>
-    ensures { IfOk result (λ query. query ≡ all_rows_of partition) }
+fn get_event(
+    alloc: Global,
+    schema: &Schema,
+    keyspace: Option<&str>,
+    get: &GetRequest,
+) -> Result<ClusterEvent, AllocError>
+    ensures { IfOk result (IsEventOf schema.now (option_copied keyspace.entry) (ScriptEvent.Get get.now)) }
 {
-    Ok(Query {
-        partition,
-        from: Bound {
-            at: Bytes::from_slice(alloc, &[])?,
-            after: false,
-        },
-        upto: Bound {
-            at: Bytes::from_slice(alloc, &[])?,
-            after: true,
-        },
-        reversed: false,
-        limit: NO_LIMIT,
-    })
+    let statement = statement_of_get(alloc, get)?;
+    let plan = plan_of(alloc, schema, keyspace, &statement)?;
+    let level = get.level;
+    Ok(ClusterEvent::Ask(get.node, Ask { plan, level }))
 }
 
-fn put_ask(alloc: Global, put: &PutRequest) -> Result<Ask, AllocError>
-    ensures { IfOk result (λ ask. ask ≡ put_ask_of put.now) }
+fn cql_event(
+    alloc: Global,
+    schema: &Schema,
+    keyspace: Option<&str>,
+    request: &CqlRequest,
+) -> Result<ClusterEvent, AllocError>
+    requires { IsSaid (ScriptEvent.Cql request.now) }
+    ensures { IfOk result (IsEventOf schema.now (option_copied keyspace.entry) (ScriptEvent.Cql request.now)) }
 {
-    Ok(Ask {
-        plan: Plan::Write(drafts_of(alloc, put)?),
-        level: put.level,
-    })
+    let statement = statement_of(alloc, request.text.as_str())?;
+    let plan = plan_of(alloc, schema, keyspace, &statement)?;
+    let level = request.level;
+    Ok(ClusterEvent::Ask(request.node, Ask { plan, level }))
 }
 
-fn get_ask(alloc: Global, get: &GetRequest) -> Result<Ask, AllocError>
-    ensures { IfOk result (λ ask. ask ≡ get_ask_of get.now) }
+/// What a line does to the cluster, in a schema and with a keyspace in use.
+pub fn event_of(
+    alloc: Global,
+    schema: &Schema,
+    keyspace: Option<&str>,
+    line: &ScriptEvent,
+) -> Result<ClusterEvent, AllocError>
+    requires { IsSaid line.now }
+    ensures { IfOk result (IsEventOf schema.now (option_copied keyspace.entry) line.now) }
 {
-    let partition = partition_of(alloc, &get.key)?;
-    Ok(Ask {
-        plan: Plan::Read(all_rows(alloc, partition)?),
-        level: get.level,
-    })
-}
-
-/// What a line does to the cluster.
-pub fn event_of(alloc: Global, line: &ScriptEvent) -> Result<ClusterEvent, AllocError>
-    ensures { IfOk result (λ event. event ≡ event_of_line line.now) }
-{
-    Ok(match line {
-        ScriptEvent::Put(put) => ClusterEvent::Ask(put.node, put_ask(alloc, put)?),
-        ScriptEvent::Get(get) => ClusterEvent::Ask(get.node, get_ask(alloc, get)?),
-        ScriptEvent::Deliver(place) => {
-            ClusterEvent::Deliver(place.from, place.upto, place.number)
-        }
-        ScriptEvent::Drop(place) => ClusterEvent::Lose(place.from, place.upto, place.number),
-        ScriptEvent::Settle(count) => ClusterEvent::Settle(*count),
-    })
+    match line {
+        ScriptEvent::Put(put) => put_event(alloc, schema, keyspace, put),
+        ScriptEvent::Get(get) => get_event(alloc, schema, keyspace, get),
+        ScriptEvent::Cql(request) => cql_event(alloc, schema, keyspace, request),
+        ScriptEvent::Deliver(place) => Ok(ClusterEvent::Deliver(
+            place.from,
+            place.upto,
+            place.number,
+        )),
+        ScriptEvent::Drop(place) => Ok(ClusterEvent::Lose(place.from, place.upto, place.number)),
+        ScriptEvent::Settle(count) => Ok(ClusterEvent::Settle(*count)),
+    }
 }

@@ -124,6 +124,74 @@ fn answers_scripts_of_three_nodes(rt: HostRuntime) -> Result<(), Fail> {
     Ok(())
 }
 
+const HEAD_OF_KS: &str =
+    "cassandra-script 1\nring 0\nrf 1\nschema CREATE KEYSPACE ks WITH replication = {'class': 'SimpleStrategy', 'replication_factor': 1}\nschema CREATE TABLE ks.t (k int, c int, v text, PRIMARY KEY (k, c))\nrun\n";
+
+/// What these lines answer behind the head with the table `ks.t`.
+fn answered(alloc: Global, lines: &str) -> Result<Ended, AllocError> {
+    let mut script = String::from_str(alloc, HEAD_OF_KS)?;
+    script.push_str(lines)?;
+    run(alloc, "script", script.as_str(), &SOUND)
+}
+
+// A deletion beats a value of its time; INSERT writes a row, and UPDATE only cells (CQL reference, "UPDATE").
+#[test]
+fn answers_statements(rt: HostRuntime) -> Result<(), Fail> {
+    let cases = [
+        (
+            "cql 0 ONE UPDATE ks.t USING TIMESTAMP 9 SET v = 'x' WHERE k = 1 AND c = 1\ncql 0 ONE UPDATE ks.t USING TIMESTAMP 9 SET v = null WHERE k = 1 AND c = 1\ncql 0 ONE SELECT * FROM ks.t WHERE k = 1\n",
+            "1 ok\n2 ok\n3 rows 0\n",
+        ),
+        (
+            "cql 0 ONE INSERT INTO ks.t (k, c) VALUES (1, 1)\ncql 0 ONE SELECT * FROM ks.t WHERE k = 1\n",
+            "1 ok\n2 rows 1\n 1 | 1 | null\n",
+        ),
+        (
+            "cql 0 ONE UPDATE ks.t SET v = null WHERE k = 2 AND c = 1\ncql 0 ONE SELECT * FROM ks.t WHERE k = 2\n",
+            "1 ok\n2 rows 0\n",
+        ),
+        (
+            "cql 0 ONE SELECT * FROM ks.nope WHERE k = 1\ncql 0 ONE SELECT * FROM ks.t WHERE k = ?\n",
+            "1 invalid UnknownTable\n2 invalid ValueCount\n",
+        ),
+        (
+            "cql 0 ONE INSERT INTO ks.t (k, c, v) VALUES (1, -1, 'a');\ncql 0 ONE INSERT INTO ks.t (k, c, v) VALUES (1, 1, 'b')\ncql 0 ONE SELECT v, c FROM ks.t WHERE k = 1 ORDER BY c DESC LIMIT 1\ncql 0 ONE SELECT COUNT(*) FROM ks.t WHERE k = 1 AND c > -2 \n",
+            "1 ok\n2 ok\n3 rows 1\n 'b' | 1\n4 rows 1\n 2\n",
+        ),
+    ];
+    for (lines, want) in cases {
+        let ended = answered(rt.alloc(), lines)?;
+        assert_eq!(rt; ended.status, Status::Ok, "{lines}");
+        assert_eq!(rt; ended.text.as_slice(), want.as_bytes(), "{lines}");
+    }
+    Ok(())
+}
+
+// A keyspace in use is that of later statements; levels and too few nodes come after a statement's own refusal.
+#[test]
+fn answers_in_their_order(rt: HostRuntime) -> Result<(), Fail> {
+    let cases = [
+        (
+            "cql 0 ONE SELECT v FROM t WHERE k = 1\ncql 0 ONE USE ks\ndrop 0 0 1\ncql 0 ONE SELECT v FROM t WHERE k = 1\ncql 0 ONE USE nope\ncql 0 ONE SELECT v FROM t WHERE k = 1\n",
+            "1 invalid UnknownTable\n2 keyspace ks\n3 rows 0\n4 invalid UnknownKeyspace\n5 rows 0\n",
+        ),
+        (
+            "cql 0 TWO SELECT v FROM ks.nope WHERE k = 1\ncql 0 TWO SELECT v FROM ks.t WHERE k = 1\ncql 0 SERIAL SELECT v FROM ks.t WHERE k = 1\ncql 0 SERIAL USE ks\n",
+            "1 invalid UnknownTable\n2 unavailable required 2 alive 1\n3 invalid Level\n4 keyspace ks\n",
+        ),
+        (
+            "cql 0 ONE INSERT INTO ks.t (k, c) VALUES (1, 1) IF NOT EXISTS\ncql 0 ONE CREATE TABLE ks.u (k int PRIMARY KEY)\nget 0 ONE k\nput 0 ONE k it's 5 o'clock\nget 0 ONE k\n",
+            "1 invalid NotSupported\n2 invalid NotSupported\n3 rows 0\n4 ok\n5 rows 1\n 'it''s' | 'o''clock'\n",
+        ),
+    ];
+    for (lines, want) in cases {
+        let ended = answered(rt.alloc(), lines)?;
+        assert_eq!(rt; ended.status, Status::Ok, "{lines}");
+        assert_eq!(rt; ended.text.as_slice(), want.as_bytes(), "{lines}");
+    }
+    Ok(())
+}
+
 #[test]
 fn refuses_what_is_no_script(rt: HostRuntime) -> Result<(), Fail> {
     let cases = [
@@ -157,6 +225,14 @@ fn refuses_what_is_no_script(rt: HostRuntime) -> Result<(), Fail> {
         (
             "cassandra-script 1\nring 0\nrf 1\nrun\nget 0 ONE k \n",
             "5: line not understood\n",
+        ),
+        (
+            "cassandra-script 1\nring 0\nrf 1\nrun\ncql 0 ONE SELEC\n",
+            "5: cql refused at 0\n",
+        ),
+        (
+            "cassandra-script 1\nring 0\nrf 1\n\nschema CREATE TABLE ks.t (k int PRIMARY KEY)\nrun\nput\n",
+            "5: head expected\n",
         ),
     ];
     for (script, want) in cases {

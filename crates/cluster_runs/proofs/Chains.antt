@@ -1,11 +1,10 @@
 -- The moves of a step, put into the trace one after another.
-use Rattle.std.proofs.Common.{◌≡◌, ◌≢◌, ℕ, ◌⊎◌, inl, inr, ◌<◌, ◌≤◌, Bool, true, false, Option, Some, None, List, [], ◌∷◌, ◌++◌, append_assoc, append-nil, refl, sym, ap, subst, ◌∙◌, arith, Contains, reverse}
+use Rattle.std.proofs.Common.{◌≡◌, ℕ, inl, inr, ◌<◌, Bool, true, Some, List, [], ◌∷◌, ◌++◌, append_assoc, append-nil, refl, sym, ap, subst, ◌∙◌, arith, Contains, reverse}
 use Rattle.std.specs.Prelude.{◌==◌, if◌then◌else◌, slice_get, slice_set, flat_map}
 use Rattle.std.proofs.lemmas.List.{reverse-append}
-use Rattle.std.proofs.lemmas.List.Elements.{Contains-append_cases, Contains-append_left, Contains-append_right}
+use Rattle.std.proofs.lemmas.List.Elements.{Contains-append_cases}
 use Rattle.std.proofs.lemmas.Grind.{flat_map-append}
 use Rattle.std.proofs.lemmas.Bool.{eqb-true, cases_Bool}
-use Rattle.cs_base.specs.declared.ids.ReqId.{ReqId}
 use Rattle.peer_messages.specs.declared.event.Ask.{Ask}
 use Rattle.peer_messages.specs.declared.chronicle.Entry.{Entry}
 use Rattle.peer_messages.specs.declared.outcome.Outbound.{Outbound}
@@ -15,10 +14,10 @@ use Rattle.node_steps.specs.Effects.{Effects}
 use Rattle.node_steps.specs.Acts.{Act, Rises, Hears, Asks, Incoming, Deed, Does, Chain, own_sends}
 use Rattle.node_steps.specs.Acts.Chain.{begun, own, matter}
 use Rattle.node_steps.specs.Steps.{entries_of}
-use Rattle.cluster_runs.specs.Trace.{Scene, WasMade, IsAskAt, MayTake, Move, Trace, moved}
+use Rattle.cluster_runs.specs.Trace.{Scene, WasMade, MayTake, Trace, moved}
 use Rattle.cluster_runs.proofs.Lists.{set_get, set_same, set_set, reverse_push}
-use Rattle.cluster_runs.proofs.Times.{passed, ArePassed, does_time}
-use Rattle.change_laws.proofs.Members.{contains_nil, contains_cases, contains_here, contains_there, contains_one}
+use Rattle.cluster_runs.proofs.Times.{passed}
+use Rattle.change_laws.proofs.Members.{contains_nil, contains_cases, contains_here, contains_there}
 
 -- the scene after these moves of node k, which is now at s'
 abbrev pub after : Scene → ℕ → List Deed → NodeState → Scene

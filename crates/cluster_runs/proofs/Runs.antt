@@ -1,6 +1,6 @@
 -- Each run is a trace.
-use Rattle.std.proofs.Common.{◌≡◌, ◌≢◌, ℕ, ◌⊎◌, inl, inr, ◌+◌, ◌<◌, ◌≤◌, Bool, true, false, Option, Some, None, List, [], ◌∷◌, ◌++◌, append_assoc, refl, sym, ap, subst, ◌∙◌, arith, Contains, reverse, map, filter, max, cond}
-use Rattle.std.specs.Prelude.{◌==◌, not, if◌then◌else◌, slice_get, slice_set, flat_map}
+use Rattle.std.proofs.Common.{◌≡◌, ℕ, inl, inr, ◌+◌, ◌<◌, Bool, true, false, Option, Some, None, List, [], ◌∷◌, ◌++◌, append_assoc, refl, sym, ap, subst, ◌∙◌, arith, Contains, reverse, filter, max, cond}
+use Rattle.std.specs.Prelude.{◌==◌, not, if◌then◌else◌, slice_set, flat_map}
 use Rattle.std.proofs.Math.Nat.{le-max_left}
 use Rattle.std.proofs.lemmas.List.{reverse-append}
 use Rattle.std.proofs.lemmas.List.Elements.{Contains-append_cases, Contains-append_left, Contains-append_right}
@@ -12,23 +12,21 @@ use Rattle.peer_messages.specs.declared.event.What.{What}
 use Rattle.peer_messages.specs.declared.event.What.TheVariants.{Client, Deliver, Tick}
 use Rattle.peer_messages.specs.declared.chronicle.Entry.{Entry}
 use Rattle.peer_messages.specs.declared.chronicle.Entry.TheVariants.{Asked, Time, Turned}
-use Rattle.peer_messages.specs.declared.chronicle.Refusal.{Refusal}
 use Rattle.peer_messages.specs.declared.outcome.Outbound.{Outbound}
 use Rattle.peer_messages.specs.declared.outcome.Outputs.{Outputs}
 use Rattle.peer_messages.specs.declared.setting.Setting.{Setting}
 use Rattle.node_steps.specs.State.{NodeState}
-use Rattle.node_steps.specs.Effects.{Effects}
-use Rattle.node_steps.specs.Acts.{Act, Rises, Hears, Asks, Incoming, Deed, Does, Chain}
+use Rattle.node_steps.specs.Acts.{Act, Rises, Hears, Incoming, Deed, Chain}
 use Rattle.node_steps.specs.Acts.Chain.{begun, own, matter}
-use Rattle.node_steps.specs.Steps.{message_of, messages_of, message_fits, heard_matter, matter_of, message_time, reading, time_after, sends_of, entries_of, NodeStep}
+use Rattle.node_steps.specs.Steps.{message_of, messages_of, message_fits, matter_of, message_time, reading, time_after, sends_of, entries_of}
 use Rattle.cluster_runs.specs.World.{World}
-use Rattle.cluster_runs.specs.Run.{Run, WasSent, asked_by, opening, stepped, ClusterStep}
+use Rattle.cluster_runs.specs.Run.{Run, WasSent, asked_by, opening, ClusterStep}
 use Rattle.cluster_runs.specs.Run.Run.{begun as fresh, more, turned}
-use Rattle.cluster_runs.specs.Trace.{Scene, scene_of, WasMade, Trace, IsFree}
+use Rattle.cluster_runs.specs.Trace.{Scene, scene_of, WasMade, Trace}
 use Rattle.cluster_runs.specs.Trace.Trace.{begun as empty, free}
 use Rattle.cluster_runs.specs.Trace.IsFree.{asked, time, turned as is_turned}
 use Rattle.cluster_runs.proofs.Lists.{contains_from_flat, in_reverse}
-use Rattle.cluster_runs.proofs.Chains.{after, IsMatter, sofar}
+use Rattle.cluster_runs.proofs.Chains.{IsMatter, sofar}
 use Rattle.change_laws.proofs.Members.{contains_nil, contains_cases, contains_here, contains_there, contains_one, contains_from_map}
 
 -- ---- what was sent was made

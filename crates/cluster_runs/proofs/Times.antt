@@ -1,22 +1,21 @@
 -- A node's time does not fall.
-use Rattle.std.proofs.Common.{◌≡◌, ◌≢◌, ℕ, ◌⊎◌, inl, inr, ◌<◌, ◌≤◌, Option, Some, None, List, [], ◌∷◌, ◌++◌, refl, sym, ap, subst, ◌∙◌, arith, Contains}
-use Rattle.std.specs.Prelude.{slice_get, slice_set, replicate, length}
+use Rattle.std.proofs.Common.{◌≡◌, ℕ, inl, inr, ◌≤◌, Option, Some, None, refl, sym, ap, subst, ◌∙◌, arith, Contains}
+use Rattle.std.specs.Prelude.{slice_get, slice_set}
 use Rattle.cs_base.specs.declared.ids.ReqId.{ReqId}
 use Rattle.cs_base.specs.declared.level.Level.{Level}
-use Rattle.peer_messages.specs.declared.event.Ask.{Ask}
 use Rattle.peer_messages.specs.declared.event.Plan.{Plan}
 use Rattle.peer_messages.specs.declared.event.Plan.TheVariants as plan
 use Rattle.peer_messages.specs.declared.message.Body.{Body}
 use Rattle.peer_messages.specs.declared.message.Body.TheVariants.{Write, WriteAck, Read, ReadReply}
 use Rattle.peer_messages.specs.declared.chronicle.Refusal.{Refusal}
 use Rattle.peer_messages.specs.declared.setting.Setting.{Setting}
-use Rattle.node_steps.specs.State.{NodeState, fresh_node}
+use Rattle.node_steps.specs.State.{NodeState}
 use Rattle.node_steps.specs.Effects.{Effects}
 use Rattle.node_steps.specs.Replicas.{Asker}
 use Rattle.node_steps.specs.Requests.{refusal_of, Begins, BeginsOrRefuses}
 use Rattle.node_steps.specs.Acts.{Act, Rises, Hears, Asks, Deed, Does, HearsBody}
-use Rattle.cluster_runs.specs.Trace.{Scene, Move, Trace, begun, moved, free}
-use Rattle.cluster_runs.proofs.Lists.{get_set, some_one}
+use Rattle.cluster_runs.specs.Trace.{Scene, Trace, begun, moved, free}
+use Rattle.cluster_runs.proofs.Lists.{get_set}
 use Rattle.change_laws.proofs.Members.{contains_nil, contains_cases}
 
 time_of : NodeState → ℕ
@@ -33,7 +32,9 @@ hears_time c a (ReadReply content) s o s' h = same_time s s' _ h.3 refl
 
 begins_time : (c : Setting) (id : ReqId) (p : Plan) (l : Level) (s : NodeState) (o : Effects) (s' : NodeState) → Begins c id p l s o s' → s.time ≤ s'.time
 begins_time c id (plan.Write d) l s o s' h = same_time s s' _ h.1 refl
-begins_time c id (plan.Read q) l s o s' h = same_time s s' _ h.1 refl
+begins_time c id (plan.Read q columns) l s o s' h = same_time s s' _ h.1 refl
+begins_time c id (plan.Use keyspace) l s o s' h = same_time s s' _ h.1 refl
+begins_time c id (plan.Invalid fault) l s o s' h = absurd h
 
 asks_time : (c : Setting) (id : ReqId) (p : Plan) (l : Level) (r : Option Refusal) (s : NodeState) (o : Effects) (s' : NodeState) → BeginsOrRefuses c id p l r s o s' → s.time ≤ s'.time
 asks_time c id p l None s o s' h = begins_time c id p l s o s' h

@@ -1,11 +1,10 @@
 -- Runs move by move: what the inductions of the theorems go over.
-use Rattle.std.specs.Prelude.{◌≡◌, ◌<◌, ℕ, Option, Some, None, List, [], ◌∷◌, ◌++◌, Contains, slice_get, slice_set, replicate, length, reverse}
+use Rattle.std.specs.Prelude.{◌≡◌, ℕ, Option, Some, List, [], ◌∷◌, ◌++◌, Contains, slice_get, slice_set, replicate, length, reverse}
 use Rattle.cs_base.specs.declared.ids.ReqId.{ReqId}
 use Rattle.peer_messages.specs.declared.chronicle.Entry.{Entry}
-use Rattle.peer_messages.specs.declared.chronicle.Entry.TheVariants.{Asked, Submitted, Acked, Refused, Began, Rows, Time, Turned}
+use Rattle.peer_messages.specs.declared.chronicle.Entry.TheVariants.{Asked, Time, Turned}
 use Rattle.peer_messages.specs.declared.chronicle.Refusal.{Refusal}
 use Rattle.peer_messages.specs.declared.event.Ask.{Ask}
-use Rattle.peer_messages.specs.declared.outcome.Outbound.{Outbound}
 use Rattle.peer_messages.specs.declared.setting.Setting.{Setting}
 use Rattle.node_steps.specs.State.{NodeState, fresh_node}
 use Rattle.node_steps.specs.Acts.{Act, Rises, Hears, Asks, Deed, Does, Incoming}

@@ -14,7 +14,7 @@ use Rattle.cs_base.specs.Ring.{AreApart}
 use Rattle.token_ring.specs.Refusals.{IsFirstRepeated, IsRefusal}
 use Rattle.token_ring.specs.declared.ring.RingError.{RingError}
 use Rattle.token_ring.specs.declared.ring.RingError.TheVariants.{Empty, Repeated, TooMany}
-use Rattle.fault_script.specs.Script.{are_apart}
+use Rattle.fault_script.specs.Lines.{are_apart}
 
 among : (t : ℤ) (ts : List ℤ) (k : ℕ) (s : ℤ) → Some t ≡ Some s → slice_get ts k ≡ Some s → list_any (int_eq t) ts ≡ true
 among t ts k s same at_k =

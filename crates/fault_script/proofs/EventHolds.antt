@@ -7,7 +7,7 @@ use Rattle.std.proofs.lemmas.Bool.{and_parts, leb-true}
 use Rattle.cs_base.specs.declared.level.Level.{Level}
 use Rattle.fault_script.specs.declared.script.ScriptEvent.TheVariants as event
 use Rattle.fault_script.specs.declared.script.Fault.TheVariants as fault
-use Rattle.fault_script.specs.Script.{put_line, put_of, get_line, get_of, message_line, place_of, settle_line, event_line, node_of, level_of, long_of, number_within, number_value, is_number, is_signed_number}
+use Rattle.fault_script.specs.Lines.{put_line, put_of, get_line, get_of, message_line, place_of, settle_line, event_line, cql_of, cql_behind, cql_from, event_of_words, event_of, event_at, words_of, behind, first_word, node_of, level_of, long_of, number_within, number_value, is_number, is_signed_number}
 use Rattle.fault_script.specs.Laws.{IsAtNodes, IsBetweenNodes}
 use Rattle.fault_script.proofs.Holding.{either_holds, some_where, understood_where, result_map_holds}
 
@@ -72,7 +72,7 @@ settle_line_holds nodes [] = tt
 settle_line_holds nodes (a ∷ []) = understood_where (IsAtNodes nodes) fault.Line (is_number a) (option_map event.Settle (number_within 1 100000 a)) (λ _. count_holds nodes (number_within 1 100000 a))
 settle_line_holds nodes (a ∷ b ∷ words) = tt
 
-pub event_line_holds : (nodes : ℕ) (words : List (List ℕ)) → 0 < nodes → IfOk (event_line nodes words) (IsAtNodes nodes)
+event_line_holds : (nodes : ℕ) (words : List (List ℕ)) → 0 < nodes → IfOk (event_line nodes words) (IsAtNodes nodes)
 event_line_holds nodes [] some = tt
 event_line_holds nodes (word ∷ words) some =
     either_holds (IsAtNodes nodes) (bytes_eq word (codes "put")) _ _ (put_line_holds nodes words some)
@@ -80,3 +80,30 @@ event_line_holds nodes (word ∷ words) some =
     (either_holds (IsAtNodes nodes) (bytes_eq word (codes "deliver")) _ _ (result_map_holds (IsAtNodes nodes) event.Deliver (message_line nodes words) (message_line_holds nodes words some))
     (either_holds (IsAtNodes nodes) (bytes_eq word (codes "drop")) _ _ (result_map_holds (IsAtNodes nodes) event.Drop (message_line nodes words) (message_line_holds nodes words some))
     (either_holds (IsAtNodes nodes) (bytes_eq word (codes "settle")) _ _ (settle_line_holds nodes words) tt))))
+
+-- ---- lines with a statement
+
+cql_of_holds : (nodes : ℕ) (node : Option ℕ) (level : Option Level) (text : List ℕ) → IfSome node (λ n. n < nodes) → IfSome (cql_of node level text) (IsAtNodes nodes)
+cql_of_holds nodes None level text h = tt
+cql_of_holds nodes (Some node) None text h = tt
+cql_of_holds nodes (Some node) (Some level) text h = h
+
+cql_behind_holds : (nodes : ℕ) (node : List ℕ) (rest : Option (List ℕ × List ℕ)) → 0 < nodes → IfOk (cql_behind nodes node rest) (IsAtNodes nodes)
+cql_behind_holds nodes node None some = tt
+cql_behind_holds nodes node (Some rest) some =
+    understood_where (IsAtNodes nodes) fault.Line (is_number node) (cql_of (node_of nodes node) (level_of rest.0) rest.1) (λ _. cql_of_holds nodes (node_of nodes node) (level_of rest.0) rest.1 (node_holds nodes node some))
+
+cql_from_holds : (nodes : ℕ) (rest : Option (List ℕ × List ℕ)) → 0 < nodes → IfOk (cql_from nodes rest) (IsAtNodes nodes)
+cql_from_holds nodes None some = tt
+cql_from_holds nodes (Some rest) some = cql_behind_holds nodes rest.0 (first_word rest.1) some
+
+event_words_hold : (nodes : ℕ) (words : Option (List (List ℕ))) → 0 < nodes → IfOk (event_of_words nodes words) (IsAtNodes nodes)
+event_words_hold nodes None some = tt
+event_words_hold nodes (Some words) some = event_line_holds nodes words some
+
+event_of_holds : (nodes : ℕ) (line : List ℕ) (text : Option (List ℕ)) → 0 < nodes → IfOk (event_of nodes line text) (IsAtNodes nodes)
+event_of_holds nodes line (Some text) some = cql_from_holds nodes (first_word text) some
+event_of_holds nodes line None some = event_words_hold nodes (words_of line) some
+
+pub event_at_holds : (nodes : ℕ) (line : List ℕ) → 0 < nodes → IfOk (event_at nodes line) (IsAtNodes nodes)
+event_at_holds nodes line some = event_of_holds nodes line (behind (codes "cql ") line) some

@@ -3,7 +3,7 @@ use Rattle.std.proofs.Common.{◌≡◌, ◌⊎◌, inl, inr, ℕ, ◌<◌, List
 use Rattle.std.proofs.lemmas.Bool.{and_from}
 use Rattle.cs_base.specs.declared.level.Level.{Level}
 use Rattle.fault_script.specs.declared.script.Fault.TheVariants as fault
-use Rattle.fault_script.specs.Script.{put_line, put_of, understood, node_of, level_of, is_number, is_signed_number, is_long_word, long_of, signed_value}
+use Rattle.fault_script.specs.Lines.{put_line, put_of, understood, node_of, level_of, is_number, is_signed_number, is_long_word, long_of, signed_value}
 use Rattle.fault_script.specs.Words.{texts_of}
 use Rattle.fault_script.proofs.WordLaws.{word_at}
 

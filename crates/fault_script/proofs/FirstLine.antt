@@ -1,7 +1,7 @@
 -- The first line of a text, and the lines behind it.
 use Rattle.std.proofs.Common.{◌≡◌, ◌≢◌, ℕ, zero, suc, ◌<◌, List, [], ◌∷◌, length, get_or, take, drop, eqb, ◌∙◌, ap, arith}
 use Rattle.std.proofs.lemmas.Bool.{eq-eqb, ne_eqb, cond-true, cond-false}
-use Rattle.fault_script.specs.Script.{lines_of, onto_first}
+use Rattle.fault_script.specs.Lines.{lines_of, onto_first}
 
 -- behind the line feed at i
 pub lines_at : (text : List ℕ) (i : ℕ) → i < length text → get_or text i 0 ≡ 10 → ((k : ℕ) → k < i → get_or text k 0 ≢ 10) → lines_of text ≡ take i text ∷ lines_of (drop (suc i) text)

@@ -7,13 +7,16 @@ use Rattle.std.specs.Option.{option_map}
 use Rattle.std.proofs.lemmas.Bool.{and_parts, leb-true, ltb-true}
 use Rattle.std.proofs.lemmas.List.{length-map}
 use Rattle.cs_base.specs.Ring.{AreTokens, IsRing}
-use Rattle.fault_script.specs.declared.script.Stage.{Stage}
-use Rattle.fault_script.specs.declared.script.Stage.TheVariants as stage
+use Rattle.fault_script.specs.declared.script.HeadStage.{HeadStage}
+use Rattle.fault_script.specs.declared.script.HeadStage.TheVariants as stage
+use Rattle.fault_script.specs.declared.script.HeadLine.{HeadLine}
+use Rattle.fault_script.specs.declared.script.HeadLine.TheVariants as head
+use Rattle.fault_script.specs.declared.script.Settings.{Settings}
 use Rattle.fault_script.specs.declared.script.Fault.{Fault}
 use Rattle.fault_script.specs.declared.script.Fault.TheVariants as fault
-use Rattle.fault_script.specs.Script.{version_line, ring_line, ring_of, factor_line, run_line, understood, are_apart, are_tokens, tokens_of, is_long, is_long_word, signed_value, is_signed_number, is_number, number_value, number_within}
+use Rattle.fault_script.specs.Lines.{version_line, ring_line, ring_of, factor_line, with_factor, is_first, with_grace, grace_line, with_expiry, expiry_line, run_line, later_line, option_line, head_words, head_of_words, statement_at, head_of, head_line, words_of, behind, understood, are_apart, are_tokens, tokens_of, is_long, is_long_word, signed_value, is_signed_number, is_number, number_value, number_within}
 use Rattle.fault_script.proofs.Apart.{passing_apart}
-use Rattle.fault_script.proofs.Holding.{some_where, understood_where, option_map_holds}
+use Rattle.fault_script.proofs.Holding.{either_holds, some_where, understood_where, option_map_holds, result_map_holds}
 
 -- a factor from 1 to the number of nodes
 pub record IsFactor (tokens : List ℤ) (factor : ℕ) : Type 0 where
@@ -22,14 +25,21 @@ pub record IsFactor (tokens : List ℤ) (factor : ℕ) : Type 0 where
   pub few : factor ≤ length tokens
 
 -- what the lines found so far say
-abbrev pub Knows : Stage → Type 0
+abbrev pub Knows : HeadStage → Type 0
 Knows stage.Version = Unit {0}
 Knows stage.Ring = Unit {0}
 Knows (stage.Factor ring) = IsRing ring
-Knows (stage.Run ring factor) = IsFactor ring factor
-Knows (stage.Events ring factor) = IsFactor ring factor
+Knows (stage.Grace settings) = IsFactor settings.ring settings.factor
+Knows (stage.Expiry settings) = IsFactor settings.ring settings.factor
+Knows (stage.Schema settings) = IsFactor settings.ring settings.factor
 
-pub version_holds : (words : List (List ℕ)) → IfOk (version_line words) Knows
+-- and what a line says
+abbrev pub Says : HeadLine → Type 0
+Says (head.Next next) = Knows next
+Says (head.Schema settings text) = IsFactor settings.ring settings.factor
+Says (head.Run settings) = IsFactor settings.ring settings.factor
+
+version_holds : (words : List (List ℕ)) → IfOk (version_line words) Knows
 version_holds [] = tt
 version_holds (word ∷ []) = tt
 version_holds (word ∷ version ∷ []) = understood_where Knows fault.Head (bytes_eq word (codes "cassandra-script") && bytes_eq version (codes "1")) (Some stage.Ring) (λ _. tt)
@@ -62,7 +72,7 @@ ring_holds words tokens long apart =
       apart = passing_apart (map signed_value words) apart;
     }
 
-abbrev passed : List ℤ → Bool → Result Stage Fault
+abbrev passed : List ℤ → Bool → Result HeadStage Fault
 passed ring apart = cond apart (Ok (stage.Factor ring)) (Err fault.Head)
 
 passing_holds : (ring : List ℤ) (apart : Bool) → (apart ≡ true → IsRing ring) → IfOk (passed ring apart) Knows
@@ -74,7 +84,7 @@ apart_holds f false ring h = tt
 apart_holds f true None h = tt
 apart_holds f true (Some ring) h = passing_holds ring (are_apart ring) (h refl)
 
-pub ring_line_holds : (words : List (List ℕ)) → IfOk (ring_line words) Knows
+ring_line_holds : (words : List (List ℕ)) → IfOk (ring_line words) Knows
 ring_line_holds [] = tt
 ring_line_holds (word ∷ tokens) =
     apart_holds fault.Head (bytes_eq word (codes "ring") && are_tokens tokens) (tokens_of tokens)
@@ -90,15 +100,71 @@ factor_holds ring word is =
     let parts = and_parts (leb 1 n) (leb n (length ring)) within in
     record { ring = is; some = leb-true 1 n parts.0; few = leb-true n (length ring) parts.1 })
 
-pub factor_line_holds : (ring : List ℤ) (words : List (List ℕ)) → IsRing ring → IfOk (factor_line ring words) Knows
+factor_line_holds : (ring : List ℤ) (words : List (List ℕ)) → IsRing ring → IfOk (factor_line ring words) Knows
 factor_line_holds ring [] is = tt
 factor_line_holds ring (word ∷ []) is = tt
 factor_line_holds ring (word ∷ factor ∷ []) is =
-    understood_where Knows fault.Head (bytes_eq word (codes "rf") && is_number factor) (option_map (stage.Run ring) (number_within 1 (length ring) factor))
-    (λ _. option_map_holds Knows (stage.Run ring) (number_within 1 (length ring) factor) (factor_holds ring factor is))
+    understood_where Knows fault.Head (bytes_eq word (codes "rf") && is_number factor) (option_map (with_factor ring) (number_within 1 (length ring) factor))
+    (λ _. option_map_holds Knows (with_factor ring) (number_within 1 (length ring) factor) (factor_holds ring factor is))
 factor_line_holds ring (word ∷ factor ∷ more ∷ words) is = tt
 
-pub run_line_holds : (ring : List ℤ) (factor : ℕ) (words : List (List ℕ)) → IsFactor ring factor → IfOk (run_line ring factor words) Knows
-run_line_holds ring factor [] is = tt
-run_line_holds ring factor (word ∷ []) is = understood_where Knows fault.Head (bytes_eq word (codes "run")) (Some (stage.Events ring factor)) (λ _. is)
-run_line_holds ring factor (word ∷ more ∷ words) is = tt
+-- ---- what may stand behind it
+
+-- whatever the number, if there is one
+some_number : (P : HeadStage → Type 0) (f : ℕ → HeadStage) (number : Option ℕ) → ((n : ℕ) → P (f n)) → IfSome (option_map f number) P
+some_number P f None h = tt
+some_number P f (Some n) h = h n
+
+grace_line_holds : (settings : Settings) (words : List (List ℕ)) → IsFactor settings.ring settings.factor → IfOk (grace_line settings words) Knows
+grace_line_holds settings [] is = tt
+grace_line_holds settings (word ∷ []) is = tt
+grace_line_holds settings (word ∷ seconds ∷ []) is =
+    understood_where Knows fault.Head (is_number seconds) (option_map (with_grace settings) (number_within 0 100000000 seconds)) (λ _. some_number Knows (with_grace settings) (number_within 0 100000000 seconds) (λ n. is))
+grace_line_holds settings (word ∷ seconds ∷ more ∷ words) is = tt
+
+expiry_line_holds : (settings : Settings) (words : List (List ℕ)) → IsFactor settings.ring settings.factor → IfOk (expiry_line settings words) Knows
+expiry_line_holds settings [] is = tt
+expiry_line_holds settings (word ∷ []) is = tt
+expiry_line_holds settings (word ∷ seconds ∷ []) is =
+    understood_where Knows fault.Head (is_number seconds) (option_map (with_expiry settings) (number_within 1000 100000 seconds)) (λ _. some_number Knows (with_expiry settings) (number_within 1000 100000 seconds) (λ n. is))
+expiry_line_holds settings (word ∷ seconds ∷ more ∷ words) is = tt
+
+run_line_holds : (settings : Settings) (words : List (List ℕ)) → IsFactor settings.ring settings.factor → IfOk (run_line settings words) Says
+run_line_holds settings [] is = tt
+run_line_holds settings (word ∷ []) is = understood_where Says fault.Head (bytes_eq word (codes "run")) (Some (head.Run settings)) (λ _. is)
+run_line_holds settings (word ∷ more ∷ words) is = tt
+
+later_line_holds : (settings : Settings) (words : List (List ℕ)) → IsFactor settings.ring settings.factor → IfOk (later_line settings words) Says
+later_line_holds settings words is =
+    either_holds Says (is_first (codes "expiry") words) _ _ (result_map_holds Says head.Next (expiry_line settings words) (expiry_line_holds settings words is)) (run_line_holds settings words is)
+
+option_line_holds : (settings : Settings) (words : List (List ℕ)) → IsFactor settings.ring settings.factor → IfOk (option_line settings words) Says
+option_line_holds settings words is =
+    either_holds Says (is_first (codes "grace") words) _ _ (result_map_holds Says head.Next (grace_line settings words) (grace_line_holds settings words is)) (later_line_holds settings words is)
+
+head_words_hold : (s : HeadStage) (words : List (List ℕ)) → Knows s → IfOk (head_words s words) Says
+head_words_hold stage.Version words knows = result_map_holds Says head.Next (version_line words) (version_holds words)
+head_words_hold stage.Ring words knows = result_map_holds Says head.Next (ring_line words) (ring_line_holds words)
+head_words_hold (stage.Factor ring) words knows = result_map_holds Says head.Next (factor_line ring words) (factor_line_holds ring words knows)
+head_words_hold (stage.Grace settings) words knows = option_line_holds settings words knows
+head_words_hold (stage.Expiry settings) words knows = later_line_holds settings words knows
+head_words_hold (stage.Schema settings) words knows = run_line_holds settings words knows
+
+words_hold : (s : HeadStage) (words : Option (List (List ℕ))) → Knows s → IfOk (head_of_words s words) Says
+words_hold s None knows = tt
+words_hold s (Some words) knows = head_words_hold s words knows
+
+statement_holds : (s : HeadStage) (text : List ℕ) → Knows s → IfOk (statement_at s text) Says
+statement_holds stage.Version text knows = tt
+statement_holds stage.Ring text knows = tt
+statement_holds (stage.Factor ring) text knows = tt
+statement_holds (stage.Grace settings) text knows = knows
+statement_holds (stage.Expiry settings) text knows = knows
+statement_holds (stage.Schema settings) text knows = knows
+
+head_holds : (s : HeadStage) (line : List ℕ) (text : Option (List ℕ)) → Knows s → IfOk (head_of s line text) Says
+head_holds s line (Some text) knows = statement_holds s text knows
+head_holds s line None knows = words_hold s (words_of line) knows
+
+pub head_line_holds : (s : HeadStage) (line : List ℕ) → Knows s → IfOk (head_line s line) Says
+head_line_holds s line knows = head_holds s line (behind (codes "schema ") line) knows

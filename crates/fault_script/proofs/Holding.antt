@@ -3,7 +3,7 @@ use Rattle.std.proofs.Common.{◌≡◌, Bool, true, false, cond, refl, Option, 
 use Rattle.std.specs.Prelude.{IfOk, IfSome}
 use Rattle.std.specs.Option.{option_map}
 use Rattle.fault_script.specs.declared.script.Fault.{Fault}
-use Rattle.fault_script.specs.Script.{understood, result_map}
+use Rattle.fault_script.specs.Lines.{understood, result_map}
 
 pub either_holds : {T E : Type 0} (P : T → Type 0) (b : Bool) (r s : Result T E) → IfOk r P → IfOk s P → IfOk (cond b r s) P
 either_holds P true r s h k = h

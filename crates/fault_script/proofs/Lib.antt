@@ -5,5 +5,8 @@ pub mod FirstLine
 pub mod HeadHolds
 pub mod Holding
 pub mod NumberLaws
+pub mod OneWay
+pub mod Readers
 pub mod ScriptHolds
+pub mod Trimming
 pub mod WordLaws

@@ -10,7 +10,7 @@ use Rattle.std.specs.Str.Parse.{digits_value, ParsesUnsigned, ParsesSigned, IsNu
 use Rattle.std.proofs.lemmas.Bool.{and_parts, cases_lt, cond-false, leb-true, eqb-false, not-true, ltb-true, false_from_ne_true}
 use Rattle.std.proofs.lemmas.Str.Parse.{IsNumeralModel, numerals_by_value, parse_plain, not_in_digits, without_leading_plus_none}
 use Rattle.std.proofs.Common.{rules}
-use Rattle.fault_script.specs.Script.{is_number, number_value, number_within, within, is_signed_number, signed_value, is_long}
+use Rattle.fault_script.specs.Lines.{is_number, number_value, number_within, within, is_signed_number, signed_value, is_long}
 
 abbrev pub AreDigits : List ℕ → Type 0
 AreDigits ds = list_all is_ascii_digit ds ≡ true

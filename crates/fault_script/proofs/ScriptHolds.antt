@@ -1,113 +1,136 @@
 -- What holds of each script, by going over its lines.
-use Rattle.std.proofs.Common.{◌≡◌, ℕ, ◌+◌, List, [], ◌∷◌, Option, Some, None, Result, Ok, Err, length, refl, sym, subst, arith, nat_lt}
+use Rattle.std.proofs.Common.{◌≡◌, inl, inr, ℕ, ◌-◌, Bool, true, false, List, [], ◌∷◌, ◌++◌, Result, Ok, Err, length, refl, sym, subst, nat_lt, cond}
 use Rattle.std.specs.Prelude.{IfOk, All}
-use Rattle.std.proofs.lemmas.List.Elements.{All-cons}
+use Rattle.std.proofs.lemmas.List.Elements.{All-nil, All-push, All-same}
+use Rattle.cql_statement.specs.declared.statement.Statement.{Statement}
+use Rattle.schema_book.specs.Books.{Book, book_of}
+use Rattle.schema_book.specs.declared.error.Refused.{Refused}
 use Rattle.fault_script.specs.declared.script.Script.{Script}
 use Rattle.fault_script.specs.declared.script.ScriptEvent.{ScriptEvent}
 use Rattle.fault_script.specs.declared.script.ScriptError.{ScriptError}
+use Rattle.fault_script.specs.declared.script.ScriptError.TheVariants as refused
 use Rattle.fault_script.specs.declared.script.Fault.{Fault}
-use Rattle.fault_script.specs.declared.script.Stage.{Stage}
-use Rattle.fault_script.specs.declared.script.Stage.TheVariants as stage
-use Rattle.fault_script.specs.declared.script.LineRead.{LineRead}
-use Rattle.fault_script.specs.declared.script.LineRead.TheVariants.{Next, Event}
-use Rattle.fault_script.specs.Script.{version_line, ring_line, factor_line, run_line, event_line, result_map, words_at, read_at, words_of, line_at, end_at, onto_events, read_then, script_from, script_of, is_skipped, lines_of, longest_script}
-use Rattle.fault_script.specs.Laws.{HasRing, IsAtNodes}
-use Rattle.fault_script.proofs.Holding.{either_holds, result_map_holds, holds_too}
-use Rattle.fault_script.proofs.HeadHolds.{Knows, version_holds, ring_line_holds, factor_line_holds, run_line_holds}
-use Rattle.fault_script.proofs.EventHolds.{event_line_holds}
+use Rattle.fault_script.specs.declared.script.HeadLine.{HeadLine}
+use Rattle.fault_script.specs.declared.script.HeadLine.TheVariants as says
+use Rattle.fault_script.specs.declared.reader.Opening.{Opening}
+use Rattle.fault_script.specs.declared.reader.Stage.{Stage}
+use Rattle.fault_script.specs.declared.reader.Stage.TheVariants as stage
+use Rattle.fault_script.specs.declared.reader.Reader.{Reader}
+use Rattle.fault_script.specs.Lines.{head_line, event_at, is_skipped, lines_of}
+use Rattle.fault_script.specs.Written.{WrittenSchema}
+use Rattle.fault_script.specs.Script.{IsOneStatement, IsSaid, IsRead, IsReadBy, Reads, Goes, GoesBy, LineGoes, HeadGoes, EventGoes, made_of, end_of, script_with, longest_script, most_lines, first_reader}
+use Rattle.fault_script.specs.Laws.{HasRing, HasSchema, IsAtNodes, AreStatements}
+use Rattle.fault_script.proofs.HeadHolds.{IsFactor, Knows, Says, head_line_holds}
+use Rattle.fault_script.proofs.EventHolds.{event_at_holds}
 
-abbrev pub IsInHead : Stage → Type 0
-IsInHead (stage.Events ring factor) = ⊥
-IsInHead stage = Unit {0}
+-- ---- what was read
 
--- an event comes behind the head alone, and at nodes of the ring
-abbrev pub IsEventAt : Stage → ScriptEvent → Type 0
-IsEventAt (stage.Events ring factor) event = IsAtNodes (length ring) event
-IsEventAt stage event = ⊥
+abbrev pub KnowsRing : Stage → Type 0
+KnowsRing (stage.Head next) = Knows next
+KnowsRing (stage.Events opening) = IsFactor opening.settings.ring opening.settings.factor
 
-abbrev pub Holds : Stage → LineRead → Type 0
-Holds stage (Next next) = IsInHead stage × Knows next
-Holds stage (Event event) = IsEventAt stage event
+-- the schema is what the statements make
+abbrev pub HasBook : Stage → List Statement → Type 0
+HasBook (stage.Head next) statements = Unit {0}
+HasBook (stage.Events opening) statements = book_of (length opening.settings.ring) opening.settings.factor opening.settings.grace statements ≡ Ok opening.schema
 
-next_holds : (stage : Stage) (r : Result Stage Fault) → IsInHead stage → IfOk r Knows → IfOk (result_map Next r) (Holds stage)
-next_holds stage (Ok next) head knows = (head, knows)
-next_holds stage (Err f) head knows = tt
+-- events come behind the head alone, at nodes of the ring
+abbrev pub HasEvents : Stage → List ScriptEvent → Type 0
+HasEvents (stage.Head next) events = events ≡ []
+HasEvents (stage.Events opening) events = All (IsAtNodes (length opening.settings.ring)) events × All IsSaid events
 
-words_hold : (stage : Stage) (words : List (List ℕ)) → Knows stage → IfOk (words_at stage words) (Holds stage)
-words_hold stage.Version words knows = next_holds stage.Version (version_line words) tt (version_holds words)
-words_hold stage.Ring words knows = next_holds stage.Ring (ring_line words) tt (ring_line_holds words)
-words_hold (stage.Factor ring) words knows = next_holds (stage.Factor ring) (factor_line ring words) tt (factor_line_holds ring words knows)
-words_hold (stage.Run ring factor) words knows = next_holds (stage.Run ring factor) (run_line ring factor words) tt (run_line_holds ring factor words knows)
-words_hold (stage.Events ring factor) words knows = result_map_holds (Holds (stage.Events ring factor)) Event (event_line (length ring) words) (event_line_holds (length ring) words knows.ring.some)
+pub record Holds (s : Stage) (written : WrittenSchema) (events : List ScriptEvent) : Type 0 where
+  pub ring : KnowsRing s
+  pub texts : AreStatements written.texts written.statements
+  pub book : HasBook s written.statements
+  pub behind : HasEvents s events
 
-line_holds : (stage : Stage) (words : Option (List (List ℕ))) → Knows stage → IfOk (read_at stage words) (Holds stage)
-line_holds stage None knows = tt
-line_holds stage (Some words) knows = words_hold stage words knows
+abbrev pub IsReader : Reader → Type 0
+IsReader reader = Holds reader.stage reader.written reader.events
 
--- ---- the script behind a stage
+-- ---- a line
 
-abbrev pub HasRingOf : Stage → Script → Type 0
-HasRingOf (stage.Events ring factor) script = script.ring ≡ ring
-HasRingOf stage script = Unit {0}
+are_more : (texts : List (List ℕ)) (statements : List Statement) (text : List ℕ) (s : Statement) → AreStatements texts statements → IsOneStatement text s → AreStatements (texts ++ text ∷ []) (statements ++ s ∷ [])
+are_more [] [] text s are is = (is, tt)
+are_more [] (t ∷ ts) text s are is = absurd are
+are_more (x ∷ xs) [] text s are is = absurd are
+are_more (x ∷ xs) (t ∷ ts) text s are is = (are.0, are_more xs ts text s are.1 is)
 
-pub record IsBehind (stage : Stage) (script : Script) : Type 0 where
+made_ok : (written : WrittenSchema) (r : Result Book Refused) (book : Book) → made_of written r ≡ Ok book → r ≡ Ok book
+made_ok written (Ok b) book is = cc
+made_ok written (Err r) book is = cc
+
+head_goes : (n : ℕ) (s : Stage) (written : WrittenSchema) (events : List ScriptEvent) (r : Result HeadLine Fault) (read : Reader) → IfOk r Says → AreStatements written.texts written.statements → events ≡ [] → HeadGoes (record { number = n; stage = s; written = written; events = events }) r read → IsReader read
+head_goes n s written events (Ok (says.Next next)) read knows are none is =
+    subst IsReader (sym is) (record { ring = knows; texts = are; book = tt; behind = none })
+head_goes n s written events (Ok (says.Schema settings text)) read knows are none goes =
+    subst IsReader (sym goes.2) (record { ring = knows; texts = are_more written.texts written.statements text goes.0 are goes.1; book = tt; behind = none })
+head_goes n s written events (Ok (says.Run settings)) read knows are none goes =
+    subst IsReader (sym goes.2) (record {
+      ring = knows;
+      texts = are;
+      book = made_ok written (book_of (length settings.ring) settings.factor settings.grace written.statements) goes.0 goes.1;
+      behind = (All-same (IsAtNodes (length settings.ring)) events [] none (All-nil (IsAtNodes (length settings.ring))), All-same IsSaid events [] none (All-nil IsSaid));
+    })
+head_goes n s written events (Err f) read knows are none goes = absurd goes
+
+event_goes : (n : ℕ) (opening : Opening) (written : WrittenSchema) (events : List ScriptEvent) (r : Result ScriptEvent Fault) (read : Reader) → Holds (stage.Events opening) written events → IfOk r (IsAtNodes (length opening.settings.ring)) → EventGoes (record { number = n; stage = stage.Events opening; written = written; events = events }) r read → IsReader read
+event_goes n opening written events (Ok event) read holds at goes =
+    subst IsReader (sym goes.1) (record {
+      ring = holds.ring;
+      texts = holds.texts;
+      book = holds.book;
+      behind = (All-push (IsAtNodes (length opening.settings.ring)) events event holds.behind.0 at, All-push IsSaid events event holds.behind.1 goes.0);
+    })
+event_goes n opening written events (Err f) read holds at goes = absurd goes
+
+line_goes : (n : ℕ) (s : Stage) (written : WrittenSchema) (events : List ScriptEvent) (line : List ℕ) (read : Reader) → Holds s written events → LineGoes s (record { number = n; stage = s; written = written; events = events }) line read → IsReader read
+line_goes n (stage.Head next) written events line read holds goes =
+    head_goes n (stage.Head next) written events (head_line next line) read (head_line_holds next line holds.ring) holds.texts holds.behind goes
+line_goes n (stage.Events opening) written events line read holds goes =
+    event_goes n opening written events (event_at (length opening.settings.ring) line) read holds (event_at_holds (length opening.settings.ring) line holds.ring.ring.some) goes
+
+goes_by : (skipped : Bool) (reader : Reader) (line : List ℕ) (read : Reader) → IsReader reader → GoesBy skipped reader line read → IsReader read
+goes_by true reader line read holds is = subst IsReader (sym is) holds
+goes_by false reader line read holds goes = line_goes reader.number reader.stage reader.written reader.events line read holds goes
+
+goes_on : (reader : Reader) (line : List ℕ) (next : Reader) → IsReader reader → Goes reader line next → IsReader next
+goes_on reader line next holds goes =
+    let read = goes_by (is_skipped line) reader line goes.0 holds goes.1 in
+    subst IsReader (sym goes.2) (record { ring = read.ring; texts = read.texts; book = read.book; behind = read.behind })
+
+-- ---- the script
+
+pub record IsScript (script : Script) : Type 0 where
   pub ring : HasRing script
-  pub events : All (IsAtNodes (length script.ring)) script.events
-  pub same : HasRingOf stage script
+  pub schema : HasSchema script
+  pub nodes : All (IsAtNodes (length script.ring)) script.events
+  pub said : All IsSaid script.events
 
-end_holds : (n : ℕ) (stage : Stage) → Knows stage → IfOk (end_at stage n) (IsBehind stage)
-end_holds n stage.Version knows = tt
-end_holds n stage.Ring knows = tt
-end_holds n (stage.Factor ring) knows = tt
-end_holds n (stage.Run ring factor) knows = tt
-end_holds n (stage.Events ring factor) knows = record {
-  ring = record { ring = knows.ring; some = knows.some; few = knows.few };
-  events = λ k d within. absurd (omega (arith, within));
-  same = refl;
+ended : (many : Bool) (opening : Opening) (reader : Reader) → Holds (stage.Events opening) reader.written reader.events → IfOk (cond many (Err refused.TooMany) (Ok (script_with opening reader.written.texts reader.events))) IsScript
+ended true opening reader holds = tt
+ended false opening reader holds = record {
+  ring = record { ring = holds.ring.ring; some = holds.ring.some; few = holds.ring.few };
+  schema = record { statements = reader.written.statements; written = holds.texts; made = holds.book };
+  nodes = holds.behind.0;
+  said = holds.behind.1;
 }
 
-head_has_none : (stage : Stage) (script : Script) → IsInHead stage → HasRingOf stage script
-head_has_none stage.Version script head = tt
-head_has_none stage.Ring script head = tt
-head_has_none (stage.Factor ring) script head = tt
-head_has_none (stage.Run ring factor) script head = tt
-head_has_none (stage.Events ring factor) script head = absurd head
+ends : (n : ℕ) (s : Stage) (written : WrittenSchema) (events : List ScriptEvent) → Holds s written events → IfOk (end_of (record { number = n; stage = s; written = written; events = events })) IsScript
+ends n (stage.Head next) written events holds = tt
+ends n (stage.Events opening) written events holds = ended (nat_lt most_lines (n - opening.first)) opening (record { number = n; stage = stage.Events opening; written = written; events = events }) holds
 
-event_at_nodes : (stage : Stage) (script : Script) (event : ScriptEvent) → HasRingOf stage script → IsEventAt stage event → IsAtNodes (length script.ring) event
-event_at_nodes stage.Version script event same at = absurd at
-event_at_nodes stage.Ring script event same at = absurd at
-event_at_nodes (stage.Factor ring) script event same at = absurd at
-event_at_nodes (stage.Run ring factor) script event same at = absurd at
-event_at_nodes (stage.Events ring factor) script event same at = subst (λ (r : List _). IsAtNodes (length r) event) (sym same) at
+reads_hold : (reader : Reader) (lines : List (List ℕ)) (r : Result Script ScriptError) → IsReader reader → Reads reader lines r → IfOk r IsScript
+reads_hold reader [] r holds is = subst (λ (x : Result Script ScriptError). IfOk x IsScript) (sym is) (ends reader.number reader.stage reader.written reader.events holds)
+reads_hold reader (line ∷ lines) r holds (inl goes) = reads_hold goes.0 lines r (goes_on reader line goes.0 holds goes.1) goes.2
+reads_hold reader (line ∷ lines) r holds (inr stops) = subst (λ (x : Result Script ScriptError). IfOk x IsScript) (sym stops.2) tt
 
-same_ring : (stage : Stage) (script : Script) (events : List ScriptEvent) → HasRingOf stage script → HasRingOf stage (record { ring = script.ring; factor = script.factor; events = events })
-same_ring stage.Version script events same = tt
-same_ring stage.Ring script events same = tt
-same_ring (stage.Factor ring) script events same = tt
-same_ring (stage.Run ring factor) script events same = tt
-same_ring (stage.Events ring factor) script events same = same
+first_holds : IsReader first_reader
+first_holds = record { ring = tt; texts = tt; book = tt; behind = refl }
 
-onto_holds : (stage : Stage) (event : ScriptEvent) (r : Result Script ScriptError) → IsEventAt stage event → IfOk r (IsBehind stage) → IfOk (onto_events event r) (IsBehind stage)
-onto_holds stage event (Ok script) at is = record {
-  ring = record { ring = is.ring.ring; some = is.ring.some; few = is.ring.few };
-  events = All-cons (IsAtNodes (length script.ring)) event script.events (event_at_nodes stage script event is.same at) is.events;
-  same = same_ring stage script (event ∷ script.events) is.same;
-}
-onto_holds stage event (Err e) at is = tt
+read_by : (long : Bool) (text : List ℕ) (r : Result Script ScriptError) → IsReadBy long text r → IfOk r IsScript
+read_by true text r is = subst (λ (x : Result Script ScriptError). IfOk x IsScript) (sym is) tt
+read_by false text r reads = reads_hold first_reader (lines_of text) r first_holds reads
 
-then_holds : (n : ℕ) (stage : Stage) (r : Result LineRead Fault) (rest : Stage → Result Script ScriptError) → Knows stage → IfOk r (Holds stage) → ((next : Stage) → Knows next → IfOk (rest next) (IsBehind next)) → IfOk (read_then n stage r rest) (IsBehind stage)
-then_holds n stage (Ok (Next next)) rest knows holds later =
-    holds_too (IsBehind next) (IsBehind stage) (rest next) (λ script is. record { ring = is.ring; events = is.events; same = head_has_none stage script holds.0 }) (later next holds.1)
-then_holds n stage (Ok (Event event)) rest knows holds later = onto_holds stage event (rest stage) holds (later stage knows)
-then_holds n stage (Err f) rest knows holds later = tt
-
-behind_holds : (n : ℕ) (stage : Stage) (lines : List (List ℕ)) → Knows stage → IfOk (script_from n stage lines) (IsBehind stage)
-behind_holds n stage [] knows = end_holds n stage knows
-behind_holds n stage (line ∷ lines) knows =
-    either_holds (IsBehind stage) (is_skipped line) _ _ (behind_holds (n + 1) stage lines knows)
-    (then_holds n stage (line_at stage line) (λ next. script_from (n + 1) next lines) knows (line_holds stage (words_of line) knows) (λ next k. behind_holds (n + 1) next lines k))
-
-pub script_holds : (text : List ℕ) (script : Script) → script_of text ≡ Ok script → IsBehind stage.Version script
-script_holds text script is =
-    subst (λ (r : Result Script ScriptError). IfOk r (IsBehind stage.Version)) is
-    (either_holds (IsBehind stage.Version) (nat_lt longest_script (length text)) _ _ tt (behind_holds 1 stage.Version (lines_of text) tt))
+pub script_holds : (text : List ℕ) (script : Script) → IsRead text (Ok script) → IsScript script
+script_holds text script is = read_by (nat_lt longest_script (length text)) text (Ok script) is

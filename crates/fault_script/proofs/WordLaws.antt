@@ -1,21 +1,21 @@
 -- The words of a line, from the steps that find them.
 use Rattle.std.proofs.Math.Seq.{drop-cons}
-use Rattle.std.proofs.Common.{map, ◌++◌, append_assoc, ◌≡◌, ◌≢◌, ℕ, ◌+◌, ◌-◌, ◌<◌, ◌≤◌, drop, add-one, Bool, true, false, not, List, [], ◌∷◌, Some, length, filter, cond, get_or, refl, sym, ◌∙◌, ap, eqb, leb, ◌==◌, Bor}
+use Rattle.std.proofs.Common.{map, ◌++◌, append_assoc, ◌≡◌, ◌≢◌, ℕ, ◌+◌, ◌-◌, ◌<◌, take, drop, add-one, Bool, true, false, not, List, [], ◌∷◌, Some, length, filter, cond, get_or, refl, sym, ◌∙◌, ap, eqb, ◌==◌, Bor}
 use Rattle.std.specs.Prelude.{ℤ, ◌&&◌}
 use Rattle.std.specs.List.{slice_split, list_all}
 use Rattle.std.specs.Str.Lossy.{utf8_valid_len}
-use Rattle.std.proofs.lemmas.Bool.{and_from, and_parts, eq-eqb, le-leb, ne_eqb, not_from_false, cond-true}
-use Rattle.fault_script.specs.Script.{is_well_formed, words_of, signed_value}
+use Rattle.std.proofs.lemmas.Bool.{and_from, and_parts, eq-eqb, ne_eqb, not_from_false, cond-true}
+use Rattle.std.specs.Str.{bytes_eq}
+use Rattle.fault_script.specs.Lines.{is_text, is_well_formed, words_of, signed_value, without_spaces, behind}
 use Rattle.fault_script.specs.Words.{texts_of}
 
-pub well_formed_line : (line : List ℕ) → utf8_valid_len line ≡ length line → length line ≤ 4096 → get_or line 0 0 ≢ 32 → get_or line (length line - 1) 0 ≢ 32 → is_well_formed line ≡ true
-well_formed_line line text short first last =
+pub well_formed_line : (line : List ℕ) → utf8_valid_len line ≡ length line → get_or line 0 0 ≢ 32 → get_or line (length line - 1) 0 ≢ 32 → is_well_formed line ≡ true
+well_formed_line line text first last =
     let a = eqb (utf8_valid_len line) (length line) in
-    let b = leb (length line) 4096 in
-    let c = not (eqb (get_or line 0 0) 32) in
-    let d = not (eqb (get_or line (length line - 1) 0) 32) in
-    and_from ((a && b) && c) d
-    (and_from (a && b) c (and_from a b (eq-eqb (utf8_valid_len line) (length line) text) (le-leb (length line) 4096 short)) (not_from_false (eqb (get_or line 0 0) 32) (ne_eqb (get_or line 0 0) 32 first)))
+    let b = not (eqb (get_or line 0 0) 32) in
+    let c = not (eqb (get_or line (length line - 1) 0) 32) in
+    and_from (a && b) c
+    (and_from a b (eq-eqb (utf8_valid_len line) (length line) text) (not_from_false (eqb (get_or line 0 0) 32) (ne_eqb (get_or line 0 0) 32 first)))
     (not_from_false (eqb (get_or line (length line - 1) 0) 32) (ne_eqb (get_or line (length line - 1) 0) 32 last))
 
 abbrev pub is_word : List ℕ → Bool
@@ -61,3 +61,12 @@ passes_behind test ws i within passes = ap (list_all test) (texts_from ws i with
 -- the first of the words left passes a test that all of them pass
 pub passes_here : (test : List ℕ → Bool) (ws : List (Bor (List ℕ))) (i : ℕ) → i < length ws → list_all test (texts_of (drop i ws)) ≡ true → test (word_at ws i) ≡ true
 passes_here test ws i within all = (and_parts (test (word_at ws i)) (list_all test (texts_of (drop (i + 1) ws))) (sym (ap (list_all test) (texts_from ws i within)) ∙ all)).0
+
+-- ---- what stands behind the beginning of a line
+
+pub behind_found : (beginning line rest text found : List ℕ) → bytes_eq (take (length beginning) line) beginning ≡ true → rest ≡ drop (length beginning) line → text ≡ rest → utf8_valid_len rest ≡ length rest → found ≡ without_spaces text → Some found ≡ behind beginning line
+behind_found beginning line rest text found begins is same valid trimmed =
+    let tail = drop (length beginning) line in
+    let is_tail : is_text tail ≡ true = ap is_text (sym is) ∙ eq-eqb (utf8_valid_len rest) (length rest) valid in
+    ap (λ (t : List ℕ). Some t) (trimmed ∙ ap without_spaces (same ∙ is))
+    ∙ sym (cond-true (bytes_eq (take (length beginning) line) beginning && is_text tail) _ _ (and_from (bytes_eq (take (length beginning) line) beginning) (is_text tail) begins is_tail))

@@ -1,11 +1,14 @@
 -- What holds of each script.
-use Rattle.std.specs.Prelude.{◌≡◌, ℕ, ◌<◌, ◌≤◌, Ok, List, length, All}
+use Rattle.std.specs.Prelude.{◌≡◌, ℕ, ◌<◌, ◌≤◌, Result, Ok, List, [], ◌∷◌, length, All}
 use Rattle.cs_base.specs.Ring.{IsRing}
+use Rattle.cql_statement.specs.declared.statement.Statement.{Statement}
+use Rattle.schema_book.specs.Books.{book_of}
 use Rattle.fault_script.specs.declared.script.Script.{Script}
+use Rattle.fault_script.specs.declared.script.ScriptError.{ScriptError}
 use Rattle.fault_script.specs.declared.script.ScriptEvent.{ScriptEvent}
 use Rattle.fault_script.specs.declared.script.ScriptEvent.TheVariants as event
 use Rattle.fault_script.specs.declared.script.MessagePlace.{MessagePlace}
-use Rattle.fault_script.specs.Script.{script_of}
+use Rattle.fault_script.specs.Script.{IsRead, IsOneStatement, IsSaid}
 
 -- one to seven nodes with tokens of their own, and a factor of at most so many
 pub record HasRing (script : Script) : Type 0 where
@@ -14,7 +17,7 @@ pub record HasRing (script : Script) : Type 0 where
   pub few : script.factor ≤ length script.ring
 
 abbrev pub ScriptsHaveARing : Type 0
-ScriptsHaveARing = (text : List ℕ) (script : Script) → script_of text ≡ Ok script → HasRing script
+ScriptsHaveARing = (text : List ℕ) (script : Script) → IsRead text (Ok script) → HasRing script
 
 -- both ends of a message are among so many nodes
 abbrev pub IsBetweenNodes : ℕ → MessagePlace → Type 0
@@ -24,9 +27,34 @@ IsBetweenNodes nodes place = (place.from < nodes) × (place.upto < nodes)
 abbrev pub IsAtNodes : ℕ → ScriptEvent → Type 0
 IsAtNodes nodes (event.Put put) = put.node < nodes
 IsAtNodes nodes (event.Get get) = get.node < nodes
+IsAtNodes nodes (event.Cql request) = request.node < nodes
 IsAtNodes nodes (event.Deliver place) = IsBetweenNodes nodes place
 IsAtNodes nodes (event.Drop place) = IsBetweenNodes nodes place
 IsAtNodes nodes (event.Settle count) = Unit {0}
 
 abbrev pub EventsAreAtNodes : Type 0
-EventsAreAtNodes = (text : List ℕ) (script : Script) → script_of text ≡ Ok script → All (IsAtNodes (length script.ring)) script.events
+EventsAreAtNodes = (text : List ℕ) (script : Script) → IsRead text (Ok script) → All (IsAtNodes (length script.ring)) script.events
+
+-- what an event says in CQL is a statement
+abbrev pub StatementsAreRead : Type 0
+StatementsAreRead = (text : List ℕ) (script : Script) → IsRead text (Ok script) → All IsSaid script.events
+
+-- each text is the statement beside it
+abbrev pub AreStatements : List (List ℕ) → List Statement → Type 0
+AreStatements [] [] = Unit {0}
+AreStatements [] (s ∷ ss) = ⊥
+AreStatements (text ∷ texts) [] = ⊥
+AreStatements (text ∷ texts) (s ∷ ss) = IsOneStatement text s × AreStatements texts ss
+
+-- the statements of a script make its schema
+pub record HasSchema (script : Script) : Type 0 where
+  pub statements : List Statement
+  pub written : AreStatements script.statements statements
+  pub made : book_of (length script.ring) script.factor script.grace statements ≡ Ok script.schema
+
+abbrev pub ScriptsHaveTheirSchema : Type 0
+ScriptsHaveTheirSchema = (text : List ℕ) (script : Script) → IsRead text (Ok script) → HasSchema script
+
+-- a text is read in one way
+abbrev pub OneReading : Type 0
+OneReading = (text : List ℕ) (a b : Result Script ScriptError) → IsRead text a → IsRead text b → a ≡ b

@@ -1,5 +1,6 @@
+pub mod Lines
 pub mod Laws
-pub mod Reading
 pub mod Reads
 pub mod Script
 pub mod Words
+pub mod Written

@@ -1,244 +1,219 @@
--- Fault scripts. A script is a text of lines: four head lines, and then what happens to the nodes.
-use Rattle.std.specs.Prelude.{ℕ, ◌+◌, ◌^◌, ◌-◌, Bool, true, false, not, ◌&&◌, ◌==◌, nat_lt, nat_le, if◌then◌else◌, Option, Some, None, Result, Ok, Err, List, [], ◌∷◌, length, filter, map, ℤ, pos, negsuc, codes, slice_index, drop}
-use Rattle.std.specs.List.{slice_split, list_all, list_any}
-use Rattle.std.specs.Option.{option_map}
-use Rattle.std.specs.Ordering.{int_eq}
-use Rattle.std.specs.Str.{bytes_eq}
-use Rattle.std.specs.Char.{is_ascii_digit}
-use Rattle.std.specs.Str.Lossy.{utf8_valid_len}
-use Rattle.std.specs.Str.Parse.{digits_value, signed_digits_value}
-use Rattle.cs_base.specs.declared.level.Level.{Level}
-use Rattle.cs_base.specs.declared.level.Level.TheVariants as level
+-- Which texts are scripts, and what the others are refused for.
+use Rattle.std.specs.Prelude.{◌≡◌, ◌≤◌, ◌⊎◌, ℕ, ◌+◌, ◌-◌, Bool, true, false, nat_lt, if◌then◌else◌, Option, None, Some, Result, Ok, Err, List, [], ◌∷◌, ◌++◌, length}
+use Rattle.cql_tokens.specs.declared.token.Token.{Token}
+use Rattle.cql_statement.specs.declared.statement.Statement.{Statement}
+use Rattle.cql_parser.specs.declared.error.ParseError.{ParseError}
+use Rattle.cql_parser.specs.declared.error.ParseError.TheVariants as cql
+use Rattle.cql_parser.specs.Parsing.{IsStatement, IsRefused, most_tokens}
+use Rattle.schema_book.specs.Books.{Book, book_of}
+use Rattle.schema_book.specs.declared.error.Refused.{Refused}
 use Rattle.fault_script.specs.declared.script.Script.{Script}
 use Rattle.fault_script.specs.declared.script.ScriptEvent.{ScriptEvent}
 use Rattle.fault_script.specs.declared.script.ScriptEvent.TheVariants as event
-use Rattle.fault_script.specs.declared.script.MessagePlace.{MessagePlace}
 use Rattle.fault_script.specs.declared.script.Fault.{Fault}
 use Rattle.fault_script.specs.declared.script.Fault.TheVariants as fault
 use Rattle.fault_script.specs.declared.script.ScriptError.{ScriptError}
 use Rattle.fault_script.specs.declared.script.ScriptError.TheVariants as refused
-use Rattle.fault_script.specs.declared.script.Stage.{Stage}
-use Rattle.fault_script.specs.declared.script.Stage.TheVariants as stage
-use Rattle.fault_script.specs.declared.script.LineRead.{LineRead}
-use Rattle.fault_script.specs.declared.script.LineRead.TheVariants.{Next, Event}
+use Rattle.fault_script.specs.declared.script.Settings.{Settings}
+use Rattle.fault_script.specs.declared.script.HeadStage.{HeadStage}
+use Rattle.fault_script.specs.declared.script.HeadStage.TheVariants as head
+use Rattle.fault_script.specs.declared.script.HeadLine.{HeadLine}
+use Rattle.fault_script.specs.declared.script.HeadLine.TheVariants as says
+use Rattle.fault_script.specs.declared.reader.Opening.{Opening}
+use Rattle.fault_script.specs.declared.reader.Stage.{Stage}
+use Rattle.fault_script.specs.declared.reader.Stage.TheVariants as stage
+use Rattle.fault_script.specs.declared.reader.Reader.{Reader}
+use Rattle.fault_script.specs.Lines.{lines_of, is_skipped, head_line, event_at}
+use Rattle.fault_script.specs.Written.{WrittenSchema, no_statements, with_line, line_of}
 
--- ---- lines and words
+-- ---- statements
 
--- Lines end with a line feed; the last may lack it
-abbrev pub onto_first : ℕ → List (List ℕ) → List (List ℕ)
-onto_first b [] = (b ∷ []) ∷ []
-onto_first b (line ∷ lines) = (b ∷ line) ∷ lines
+-- the text is this statement, of no more tokens than there may be
+abbrev pub IsOneStatement : List ℕ → Statement → Type 0
+IsOneStatement text s = (tokens : List Token) × IsStatement text tokens s × (length tokens ≤ most_tokens)
 
-abbrev pub lines_of : List ℕ → List (List ℕ)
-lines_of [] = []
-lines_of (b ∷ bs) = if b == 10 then [] ∷ lines_of bs else onto_first b (lines_of bs)
+-- the place of a refusal; of too many tokens it is the text's length
+abbrev pub offset_of : List ℕ → ParseError → Option ℕ
+offset_of text (cql.Char at) = Some at
+offset_of text (cql.Unexpected at) = Some at
+offset_of text (cql.Unclosed at) = Some at
+offset_of text cql.TooLong = Some (length text)
+offset_of text cql.NoMemory = None
 
--- empty lines and comments are passed over
-abbrev pub is_skipped : List ℕ → Bool
-is_skipped [] = true
-is_skipped (b ∷ bs) = b == 35
+-- the text is no statement, and this is where it stops to be one
+abbrev pub IsRefusedAt : List ℕ → ℕ → Type 0
+IsRefusedAt text at = (e : ParseError) × IsRefused text e × (offset_of text e ≡ Some at)
 
--- a line of at most 4,096 bytes, in UTF-8, that neither begins nor ends with a space
-abbrev pub is_well_formed : List ℕ → Bool
-is_well_formed line =
-    (utf8_valid_len line == length line) && nat_le (length line) 4096 && not (slice_index line 0 == 32) && not (slice_index line (length line - 1) == 32)
+-- the text of line n is no statement
+abbrev pub IsRefusedCql : ℕ → List ℕ → ScriptError → Type 0
+IsRefusedCql n text e = (at : ℕ) × IsRefusedAt text at × (e ≡ refused.Cql n at)
 
--- its words, which one or more spaces separate
-abbrev pub words_of : List ℕ → Option (List (List ℕ))
-words_of line = if is_well_formed line then Some (filter (λ w. not (length w == 0)) (slice_split (λ b. b == 32) line)) else None
+-- ---- the schema
 
--- ---- numbers, nodes and levels
+-- what the statements make, or the line of the one that is refused
+abbrev pub made_of : WrittenSchema → Result Book Refused → Result Book ScriptError
+made_of written (Ok book) = Ok book
+made_of written (Err r) = Err (refused.Head (line_of written r.statement))
 
--- one or more decimal digits; in a token or a timestamp `-` may stand before them
-abbrev pub is_number : List ℕ → Bool
-is_number word = not (length word == 0) && list_all is_ascii_digit word
+abbrev pub schema_of : Settings → WrittenSchema → Result Book ScriptError
+schema_of settings written = made_of written (book_of (length settings.ring) settings.factor settings.grace written.statements)
 
-abbrev pub number_value : List ℕ → ℕ
-number_value word = digits_value 10 word
+-- ---- the reader of lines: which line is next, what it has to be, and what was read so far
 
-abbrev pub is_signed_number : List ℕ → Bool
-is_signed_number word = is_number (if slice_index word 0 == 45 then drop 1 word else word)
+abbrev pub first_reader : Reader
+first_reader = record { number = 1; stage = stage.Head head.Version; written = no_statements; events = [] }
 
-abbrev pub signed_value : List ℕ → ℤ
-signed_value word = signed_digits_value 10 word
+-- behind one line more
+abbrev pub counted : Reader → Reader
+counted reader = record reader { number = reader.number + 1 }
 
--- the number, where it is one from `least` to `most`
-abbrev pub within : ℕ → ℕ → ℕ → Option ℕ
-within least most n = if nat_le least n && nat_le n most then Some n else None
+abbrev pub with_stage : Reader → HeadStage → Reader
+with_stage reader next = record reader { stage = stage.Head next }
 
-abbrev pub number_within : ℕ → ℕ → List ℕ → Option ℕ
-number_within least most word = within least most (number_value word)
+abbrev pub with_statement : Reader → Settings → List ℕ → Statement → Reader
+with_statement reader settings text s =
+    record reader { stage = stage.Head (head.Schema settings); written = with_line reader.written reader.number text s }
 
--- within 64 bits
-abbrev pub is_long : ℤ → Bool
-is_long (pos n) = nat_lt n (2 ^ 63)
-is_long (negsuc n) = nat_lt n (2 ^ 63)
+-- the line is `run`, and the events stand from the next one on
+abbrev pub opened : Reader → Settings → Book → Reader
+opened reader settings schema =
+    record reader { stage = stage.Events (record { settings = settings; schema = schema; first = reader.number + 1 }) }
 
-abbrev pub is_long_word : List ℕ → Bool
-is_long_word word = is_long (signed_value word)
+abbrev pub with_event : Reader → ScriptEvent → Reader
+with_event reader event = record reader { events = reader.events ++ event ∷ [] }
 
-abbrev pub long_of : List ℕ → Option ℤ
-long_of word = if is_long_word word then Some (signed_value word) else None
+-- ---- lines that take the reader on
 
--- one of so many nodes
-abbrev pub node_of : ℕ → List ℕ → Option ℕ
-node_of nodes word = number_within 0 (nodes - 1) word
+-- what a line of the head says, and what was read then
+abbrev pub HeadGoes : Reader → Result HeadLine Fault → Reader → Type 0
+HeadGoes reader (Ok (says.Next next)) read = read ≡ with_stage reader next
+HeadGoes reader (Ok (says.Schema settings text)) read = (s : Statement) × IsOneStatement text s × (read ≡ with_statement reader settings text s)
+HeadGoes reader (Ok (says.Run settings)) read = (schema : Book) × (schema_of settings reader.written ≡ Ok schema) × (read ≡ opened reader settings schema)
+HeadGoes reader (Err f) read = ⊥
 
-abbrev pub level_of : List ℕ → Option Level
-level_of word =
-    if bytes_eq word (codes "ONE") then Some level.One
-    else (if bytes_eq word (codes "TWO") then Some level.Two
-    else (if bytes_eq word (codes "THREE") then Some level.Three
-    else (if bytes_eq word (codes "QUORUM") then Some level.Quorum
-    else (if bytes_eq word (codes "ALL") then Some level.All
-    else (if bytes_eq word (codes "LOCAL_QUORUM") then Some level.LocalQuorum
-    else (if bytes_eq word (codes "SERIAL") then Some level.Serial
-    else (if bytes_eq word (codes "LOCAL_SERIAL") then Some level.LocalSerial
-    else (if bytes_eq word (codes "LOCAL_ONE") then Some level.LocalOne
-    else None))))))))
+-- what an event says in CQL is one statement
+abbrev pub IsSaid : ScriptEvent → Type 0
+IsSaid (event.Put put) = Unit {0}
+IsSaid (event.Get get) = Unit {0}
+IsSaid (event.Cql request) = (s : Statement) × IsOneStatement request.text s
+IsSaid (event.Deliver place) = Unit {0}
+IsSaid (event.Drop place) = Unit {0}
+IsSaid (event.Settle count) = Unit {0}
 
--- what words give that are understood, or refused by this fault: a value, where their numbers and their level are in range
-abbrev pub understood : {T : Type 0} → Fault → Bool → Option T → Result T Fault
-understood f false value = Err f
-understood f true None = Err fault.Number
-understood f true (Some value) = Ok value
+abbrev pub EventGoes : Reader → Result ScriptEvent Fault → Reader → Type 0
+EventGoes reader (Ok event) read = IsSaid event × (read ≡ with_event reader event)
+EventGoes reader (Err f) read = ⊥
 
-abbrev pub result_map : {T U : Type 0} → (T → U) → Result T Fault → Result U Fault
-result_map f (Ok value) = Ok (f value)
-result_map f (Err e) = Err e
+abbrev pub LineGoes : Stage → Reader → List ℕ → Reader → Type 0
+LineGoes (stage.Head next) reader line read = HeadGoes reader (head_line next line) read
+LineGoes (stage.Events opening) reader line read = EventGoes reader (event_at (length opening.settings.ring) line) read
 
--- ---- the head
+-- a line that is skipped says nothing
+abbrev pub GoesBy : Bool → Reader → List ℕ → Reader → Type 0
+GoesBy true reader line read = read ≡ reader
+GoesBy false reader line read = LineGoes reader.stage reader line read
 
-abbrev pub version_line : List (List ℕ) → Result Stage Fault
-version_line (word ∷ version ∷ []) = understood fault.Head (bytes_eq word (codes "cassandra-script") && bytes_eq version (codes "1")) (Some stage.Ring)
-version_line words = Err fault.Head
+-- the line takes the reader on
+abbrev pub Goes : Reader → List ℕ → Reader → Type 0
+Goes reader line next = (read : Reader) × GoesBy (is_skipped line) reader line read × (next ≡ counted read)
 
--- the tokens, where each is within 64 bits
-abbrev pub tokens_of : List (List ℕ) → Option (List ℤ)
-tokens_of words = if list_all is_long_word words then Some (map signed_value words) else None
-
--- whether no token stands twice
-abbrev pub are_apart : List ℤ → Bool
-are_apart [] = true
-are_apart (token ∷ tokens) = not (list_any (int_eq token) tokens) && are_apart tokens
-
--- one to seven signed numbers
-abbrev pub are_tokens : List (List ℕ) → Bool
-are_tokens words = nat_le 1 (length words) && nat_le (length words) 7 && list_all is_signed_number words
-
-abbrev pub ring_of : Result (List ℤ) Fault → Result Stage Fault
-ring_of (Ok tokens) = if are_apart tokens then Ok (stage.Factor tokens) else Err fault.Head
-ring_of (Err f) = Err f
-
-abbrev pub ring_line : List (List ℕ) → Result Stage Fault
-ring_line [] = Err fault.Head
-ring_line (word ∷ tokens) = ring_of (understood fault.Head (bytes_eq word (codes "ring") && are_tokens tokens) (tokens_of tokens))
-
-abbrev pub factor_line : List ℤ → List (List ℕ) → Result Stage Fault
-factor_line ring (word ∷ factor ∷ []) = understood fault.Head (bytes_eq word (codes "rf") && is_number factor) (option_map (stage.Run ring) (number_within 1 (length ring) factor))
-factor_line ring words = Err fault.Head
-
-abbrev pub run_line : List ℤ → ℕ → List (List ℕ) → Result Stage Fault
-run_line ring factor (word ∷ []) = understood fault.Head (bytes_eq word (codes "run")) (Some (stage.Events ring factor))
-run_line ring factor words = Err fault.Head
-
--- ---- events, at so many nodes
-
-abbrev pub put_of : Option ℕ → Option Level → List ℕ → List ℕ → Option ℤ → List ℕ → Option ScriptEvent
-put_of (Some node) (Some level) key row (Some timestamp) value =
-    Some (event.Put (record { node = node; level = level; key = key; row = row; timestamp = timestamp; value = value }))
-put_of _ _ key row _ value = None
-
-abbrev pub put_line : ℕ → List (List ℕ) → Result ScriptEvent Fault
-put_line nodes (node ∷ level ∷ key ∷ row ∷ timestamp ∷ value ∷ []) =
-    understood fault.Line (is_number node && is_signed_number timestamp) (put_of (node_of nodes node) (level_of level) key row (long_of timestamp) value)
-put_line nodes words = Err fault.Line
-
-abbrev pub get_of : Option ℕ → Option Level → List ℕ → Option ScriptEvent
-get_of (Some node) (Some level) key = Some (event.Get (record { node = node; level = level; key = key }))
-get_of _ _ key = None
-
-abbrev pub get_line : ℕ → List (List ℕ) → Result ScriptEvent Fault
-get_line nodes (node ∷ level ∷ key ∷ []) = understood fault.Line (is_number node) (get_of (node_of nodes node) (level_of level) key)
-get_line nodes words = Err fault.Line
-
-abbrev pub place_of : Option ℕ → Option ℕ → Option ℕ → Option MessagePlace
-place_of (Some from) (Some upto) (Some number) = Some (record { from = from; upto = upto; number = number })
-place_of _ _ _ = None
-
-abbrev pub message_line : ℕ → List (List ℕ) → Result MessagePlace Fault
-message_line nodes (from ∷ upto ∷ number ∷ []) =
-    understood fault.Line (is_number from && is_number upto && is_number number) (place_of (node_of nodes from) (node_of nodes upto) (number_within 0 (2 ^ 64 - 1) number))
-message_line nodes words = Err fault.Line
-
-abbrev pub settle_line : List (List ℕ) → Result ScriptEvent Fault
-settle_line (count ∷ []) = understood fault.Line (is_number count) (option_map event.Settle (number_within 1 100000 count))
-settle_line words = Err fault.Line
-
-abbrev pub event_line : ℕ → List (List ℕ) → Result ScriptEvent Fault
-event_line nodes [] = Err fault.Line
-event_line nodes (word ∷ words) =
-    if bytes_eq word (codes "put") then put_line nodes words
-    else (if bytes_eq word (codes "get") then get_line nodes words
-    else (if bytes_eq word (codes "deliver") then result_map event.Deliver (message_line nodes words)
-    else (if bytes_eq word (codes "drop") then result_map event.Drop (message_line nodes words)
-    else (if bytes_eq word (codes "settle") then settle_line words
-    else Err fault.Line))))
-
--- ---- the script
-
--- what words give where they have to be this
-abbrev pub words_at : Stage → List (List ℕ) → Result LineRead Fault
-words_at stage.Version words = result_map Next (version_line words)
-words_at stage.Ring words = result_map Next (ring_line words)
-words_at (stage.Factor ring) words = result_map Next (factor_line ring words)
-words_at (stage.Run ring factor) words = result_map Next (run_line ring factor words)
-words_at (stage.Events ring factor) words = result_map Event (event_line (length ring) words)
-
--- what a line is there that has no words
-abbrev pub fault_at : Stage → Fault
-fault_at (stage.Events ring factor) = fault.Line
-fault_at stage = fault.Head
-
-abbrev pub read_at : Stage → Option (List (List ℕ)) → Result LineRead Fault
-read_at stage None = Err (fault_at stage)
-read_at stage (Some words) = words_at stage words
-
--- what a line gives there
-abbrev pub line_at : Stage → List ℕ → Result LineRead Fault
-line_at stage line = read_at stage (words_of line)
+-- ---- lines that are refused
 
 abbrev pub refusal : Fault → ℕ → ScriptError
 refusal fault.Head n = refused.Head n
 refusal fault.Line n = refused.Line n
 refusal fault.Number n = refused.Number n
 
--- the end of the text, behind line n - 1
-abbrev pub end_at : Stage → ℕ → Result Script ScriptError
-end_at (stage.Events ring factor) n = Ok (record { ring = ring; factor = factor; events = [] })
-end_at stage n = Err (refused.Head n)
+abbrev pub refused_or : Result Book ScriptError → ScriptError → ScriptError
+refused_or (Ok schema) e = e
+refused_or (Err refusal) e = refusal
 
--- an event before others
-abbrev pub onto_events : ScriptEvent → Result Script ScriptError → Result Script ScriptError
-onto_events event (Ok script) = Ok (record { ring = script.ring; factor = script.factor; events = event ∷ script.events })
-onto_events event (Err e) = Err e
+-- a refusal in the head, or that of the schema, which stands before it
+abbrev pub head_refusal : HeadStage → WrittenSchema → ScriptError → ScriptError
+head_refusal head.Version written e = e
+head_refusal head.Ring written e = e
+head_refusal (head.Factor ring) written e = e
+head_refusal (head.Grace settings) written e = e
+head_refusal (head.Expiry settings) written e = e
+head_refusal (head.Schema settings) written e = refused_or (schema_of settings written) e
 
--- what line n gives, and then what the lines behind it give; the first refusal decides
-abbrev pub read_then : ℕ → Stage → Result LineRead Fault → (Stage → Result Script ScriptError) → Result Script ScriptError
-read_then n stage (Ok (Next next)) rest = rest next
-read_then n stage (Ok (Event event)) rest = onto_events event (rest stage)
-read_then n stage (Err f) rest = Err (refusal f n)
+abbrev pub first_refusal : Stage → WrittenSchema → ScriptError → ScriptError
+first_refusal (stage.Head next) written e = head_refusal next written e
+first_refusal (stage.Events opening) written e = e
 
--- the lines from line n on
-abbrev pub script_from : ℕ → Stage → List (List ℕ) → Result Script ScriptError
-script_from n stage [] = end_at stage n
-script_from n stage (line ∷ lines) =
-    if is_skipped line then script_from (n + 1) stage lines else read_then n stage (line_at stage line) (λ next. script_from (n + 1) next lines)
+abbrev pub HeadStops : Reader → Result HeadLine Fault → ScriptError → Type 0
+HeadStops reader (Ok (says.Next next)) e = ⊥
+HeadStops reader (Ok (says.Schema settings text)) e =
+    (at : ℕ) × IsRefusedAt text at × (e ≡ first_refusal reader.stage reader.written (refused.Cql reader.number at))
+HeadStops reader (Ok (says.Run settings)) e = schema_of settings reader.written ≡ Err e
+HeadStops reader (Err f) e = e ≡ first_refusal reader.stage reader.written (refusal f reader.number)
+
+-- the CQL of an event is refused
+abbrev pub IsRefusedEvent : ℕ → ScriptEvent → ScriptError → Type 0
+IsRefusedEvent n (event.Put put) e = ⊥
+IsRefusedEvent n (event.Get get) e = ⊥
+IsRefusedEvent n (event.Cql request) e = IsRefusedCql n request.text e
+IsRefusedEvent n (event.Deliver place) e = ⊥
+IsRefusedEvent n (event.Drop place) e = ⊥
+IsRefusedEvent n (event.Settle count) e = ⊥
+
+abbrev pub EventStops : Reader → Result ScriptEvent Fault → ScriptError → Type 0
+EventStops reader (Ok event) e = IsRefusedEvent reader.number event e
+EventStops reader (Err f) e = e ≡ refusal f reader.number
+
+abbrev pub LineStops : Stage → Reader → List ℕ → ScriptError → Type 0
+LineStops (stage.Head next) reader line e = HeadStops reader (head_line next line) e
+LineStops (stage.Events opening) reader line e = EventStops reader (event_at (length opening.settings.ring) line) e
+
+abbrev pub StopsBy : Bool → Reader → List ℕ → ScriptError → Type 0
+StopsBy true reader line e = ⊥
+StopsBy false reader line e = LineStops reader.stage reader line e
+
+-- the line is refused for this
+abbrev pub Stops : Reader → List ℕ → ScriptError → Type 0
+Stops reader line e = StopsBy (is_skipped line) reader line e
+
+-- ---- the end of the text
+
+-- the most lines behind `run`
+abbrev pub most_lines : ℕ
+most_lines = 1000000
+
+abbrev pub script_with : Opening → List (List ℕ) → List ScriptEvent → Script
+script_with opening statements events = record {
+  ring = opening.settings.ring;
+  factor = opening.settings.factor;
+  grace = opening.settings.grace;
+  expiry = opening.settings.expiry;
+  statements = statements;
+  schema = opening.schema;
+  events = events;
+}
+
+abbrev pub end_at : Stage → Reader → Result Script ScriptError
+end_at (stage.Head next) reader = Err (head_refusal next reader.written (refused.Head reader.number))
+end_at (stage.Events opening) reader =
+    if nat_lt most_lines (reader.number - opening.first) then Err refused.TooMany else Ok (script_with opening reader.written.texts reader.events)
+
+abbrev pub end_of : Reader → Result Script ScriptError
+end_of reader = end_at reader.stage reader
+
+-- ---- the script
+
+-- the lines from the next one on give this; the first that is refused decides
+abbrev pub Reads : Reader → List (List ℕ) → Result Script ScriptError → Type 0
+Reads reader [] r = r ≡ end_of reader
+Reads reader (line ∷ lines) r =
+    ((next : Reader) × Goes reader line next × Reads next lines r) ⊎ ((e : ScriptError) × Stops reader line e × (r ≡ Err e))
 
 -- the longest script, 64 MiB
 abbrev pub longest_script : ℕ
 longest_script = 67108864
 
--- the script of a text, or why the text is none
-abbrev pub script_of : List ℕ → Result Script ScriptError
-script_of bytes = if nat_lt longest_script (length bytes) then Err refused.TooLong else script_from 1 stage.Version (lines_of bytes)
+abbrev pub IsReadBy : Bool → List ℕ → Result Script ScriptError → Type 0
+IsReadBy true text r = r ≡ Err refused.TooLong
+IsReadBy false text r = Reads first_reader (lines_of text) r
+
+-- the text is this script, or is refused for this
+abbrev pub IsRead : List ℕ → Result Script ScriptError → Type 0
+IsRead text r = IsReadBy (nat_lt longest_script (length text)) text r

@@ -1,14 +1,17 @@
 //! The lines after `run`.
 
-ghost use Rattle.std.specs.Prelude.{◌≡◌, ◌≤◌, ◌&&◌, ◌∷◌, [], IfOk, codes};
+ghost use Rattle.std.specs.Prelude.{◌≡◌, ◌≤◌, ◌<◌, ◌&&◌, ◌∷◌, [], IfOk, codes, length};
 ghost use Rattle.std.specs.Str.{bytes_eq};
-ghost use Rattle.fault_script.specs.Script.{is_number as is_number_word, is_signed_number as is_signed_word, put_line as put_line_of, get_line as get_line_of, message_line as message_line_of, settle_line as settle_line_of, event_line as event_line_of};
+ghost use Rattle.fault_script.specs.Lines.{is_number as is_number_word, is_signed_number as is_signed_word, put_line as put_line_of, get_line as get_line_of, message_line as message_line_of, settle_line as settle_line_of, event_line as event_line_of, cql_line as cql_line_of, event_at as event_at_of};
 ghost use Rattle.fault_script.specs.Words.{texts_of};
 ghost use Rattle.fault_script.specs.Reads.{LineGives};
 
+use crate::lines::{behind, first_word, words};
 use crate::numbers::{is_number, is_signed_number, level_of, long_value, node_of, number_within};
-use crate::script::{Fault, GetRequest, LineError, MessagePlace, PutRequest, ScriptEvent};
-use cs_base::Bytes;
+use crate::script::{
+    CqlRequest, Fault, GetRequest, LineError, MessagePlace, PutRequest, ScriptEvent,
+};
+use cs_base::Text;
 use std::alloc::Global;
 
 /// The most times that a line `settle` delivers a message.
@@ -37,10 +40,10 @@ fn put_line(alloc: Global, nodes: u8, words: &[&str]) -> Result<ScriptEvent, Lin
     Ok(ScriptEvent::Put(PutRequest {
         node,
         level,
-        key: Bytes::from_slice(alloc, key.as_bytes())?,
-        row: Bytes::from_slice(alloc, row.as_bytes())?,
+        key: Text::from_str(alloc, key)?,
+        row: Text::from_str(alloc, row)?,
         timestamp,
-        value: Bytes::from_slice(alloc, value.as_bytes())?,
+        value: Text::from_str(alloc, value)?,
     }))
 }
 
@@ -61,7 +64,7 @@ fn get_line(alloc: Global, nodes: u8, words: &[&str]) -> Result<ScriptEvent, Lin
     let Some(level) = level_of(level) else {
         return Err(LineError::Fault(Fault::Number));
     };
-    let key = Bytes::from_slice(alloc, key.as_bytes())?;
+    let key = Text::from_str(alloc, key)?;
     Ok(ScriptEvent::Get(GetRequest { node, level, key }))
 }
 
@@ -112,7 +115,7 @@ fn settle_line(words: &[&str]) -> Result<ScriptEvent, Fault>
 }
 
 /// What a line of these words does, at so many nodes.
-pub fn event_line(alloc: Global, nodes: u8, words: &[&str]) -> Result<ScriptEvent, LineError>
+fn event_line(alloc: Global, nodes: u8, words: &[&str]) -> Result<ScriptEvent, LineError>
     requires some { 1 ≤ nodes }
     requires few { nodes ≤ 7 }
     ensures { LineGives result (event_line_of nodes (texts_of words.now)) }
@@ -127,5 +130,46 @@ pub fn event_line(alloc: Global, nodes: u8, words: &[&str]) -> Result<ScriptEven
         "drop" => Ok(ScriptEvent::Drop(message_place(nodes, words)?)),
         "settle" => Ok(settle_line(words)?),
         _ => Err(LineError::Fault(Fault::Line)),
+    }
+}
+
+/// What a line `cql` does, of which the node, the level and the statement are left.
+fn cql_line(alloc: Global, nodes: u8, text: &str) -> Result<ScriptEvent, LineError>
+    requires some { 1 ≤ nodes }
+    requires few { nodes ≤ 7 }
+    ensures { LineGives result (cql_line_of nodes text.now) }
+{
+    let Some((node, rest)) = first_word(text) else {
+        return Err(LineError::Fault(Fault::Line));
+    };
+    let Some((level, statement)) = first_word(rest) else {
+        return Err(LineError::Fault(Fault::Line));
+    };
+    if !is_number(node) {
+        return Err(LineError::Fault(Fault::Line));
+    }
+    let Some(node) = node_of(nodes, node) else {
+        return Err(LineError::Fault(Fault::Number));
+    };
+    let Some(level) = level_of(level) else {
+        return Err(LineError::Fault(Fault::Number));
+    };
+    let text = Text::from_str(alloc, statement)?;
+    Ok(ScriptEvent::Cql(CqlRequest { node, level, text }))
+}
+
+/// What a line does, at so many nodes.
+pub fn event_at(alloc: Global, nodes: u8, line: &[u8]) -> Result<ScriptEvent, LineError>
+    requires line { 0 < length line.now }
+    requires some { 1 ≤ nodes }
+    requires few { nodes ≤ 7 }
+    ensures { LineGives result (event_at_of nodes line.now) }
+{
+    if let Some(text) = behind(line, b"cql ") {
+        return cql_line(alloc, nodes, text);
+    }
+    match words(alloc, line)? {
+        Some(words) => event_line(alloc, nodes, &words),
+        None => Err(LineError::Fault(Fault::Line)),
     }
 }

@@ -1,16 +1,30 @@
 //! The lines of the head.
 
-ghost use Rattle.std.specs.Prelude.{◌≡◌, ◌≤◌, Bool, true, false, ◌&&◌, codes, map, length, IsTrue, IfOk, IfErr, OnErr, MatchOption, MatchResult};
+ghost use Rattle.std.specs.Prelude.{◌≡◌, ◌≤◌, Bool, true, false, ◌&&◌, ◌<◌, codes, map, length, IsTrue, IfOk, IfErr, OnErr, MatchOption, MatchResult};
 ghost use Rattle.std.specs.List.{list_all};
 ghost use Rattle.std.specs.Str.{bytes_eq};
-ghost use Rattle.fault_script.specs.Script.{is_number as is_number_word, is_signed_number as is_signed_word, is_long_word, signed_value, are_apart, are_tokens as are_token_words, version_line as version_line_of, ring_line as ring_line_of, factor_line as factor_line_of, run_line as run_line_of};
+ghost use Rattle.fault_script.specs.Lines.{is_number as is_number_word, is_signed_number as is_signed_word, is_long_word, signed_value, are_apart, are_tokens as are_token_words, version_line as version_line_of, ring_line as ring_line_of, factor_line as factor_line_of, first_settings as first_settings_of, is_first as is_first_word, grace_line as grace_line_of, expiry_line as expiry_line_of, run_line as run_line_of, later_line as later_line_of, option_line as option_line_of, head_words as head_words_of, statement_at as statement_at_of, head_line as head_line_of};
 ghost use Rattle.fault_script.specs.Words.{texts_of};
 ghost use Rattle.fault_script.specs.Reads.{LineGives};
 
+use crate::lines::{behind, words};
 use crate::numbers::{is_number, is_signed_number, long_value, number_within};
-use crate::script::{Fault, LineError, Stage};
+use crate::script::{Fault, HeadLine, HeadStage, LineError, Settings};
+use cs_base::Text;
 use std::alloc::{AllocError, Global};
 use token_ring::{MOST_NODES, Ring};
+
+/// How long deletions are kept without a line `grace`, in seconds: ten days.
+const GRACE: u64 = 864_000;
+
+const MOST_GRACE: u64 = 100_000_000;
+
+/// After how many seconds a message is too old without a line `expiry`: three hours.
+const EXPIRY: u64 = 10_800;
+
+const LEAST_EXPIRY: u64 = 1_000;
+
+const MOST_EXPIRY: u64 = 100_000;
 
 fn is_version(word: &str, version: &str) -> bool
     ensures { result ≡ (bytes_eq word.now (codes "cassandra-script") && bytes_eq version.now (codes "1")) }
@@ -18,11 +32,11 @@ fn is_version(word: &str, version: &str) -> bool
     word == "cassandra-script" && version == "1"
 }
 
-pub fn version_line(words: &[&str]) -> Result<Stage, Fault>
+fn version_line(words: &[&str]) -> Result<HeadStage, Fault>
     ensures { result ≡ version_line_of (texts_of words.now) }
 {
     match words {
-        [word, version] if is_version(word, version) => Ok(Stage::Ring),
+        [word, version] if is_version(word, version) => Ok(HeadStage::Ring),
         _ => Err(Fault::Head),
     }
 }
@@ -69,7 +83,7 @@ fn ring_of(tokens: &[i64]) -> Result<Ring, Fault>
     }
 }
 
-pub fn ring_line(alloc: Global, words: &[&str]) -> Result<Stage, LineError>
+fn ring_line(alloc: Global, words: &[&str]) -> Result<HeadStage, LineError>
     ensures { LineGives result (ring_line_of (texts_of words.now)) }
 {
     let [word, tokens @ ..] = words else {
@@ -81,7 +95,7 @@ pub fn ring_line(alloc: Global, words: &[&str]) -> Result<Stage, LineError>
     let Some(tokens) = tokens_of(alloc, tokens)? else {
         return Err(LineError::Fault(Fault::Number));
     };
-    Ok(Stage::Factor(ring_of(&tokens)?))
+    Ok(HeadStage::Factor(ring_of(&tokens)?))
 }
 
 fn is_factor(word: &str, factor: &str) -> bool
@@ -90,7 +104,19 @@ fn is_factor(word: &str, factor: &str) -> bool
     word == "rf" && is_number(factor)
 }
 
-pub fn factor_line(ring: &Ring, words: &[&str]) -> Result<Stage, Fault>
+/// What holds without a line `grace` or `expiry`.
+fn first_settings(ring: &Ring, factor: u8) -> Settings
+    ensures { result ≡ first_settings_of ring.now factor }
+{
+    Settings {
+        ring: *ring,
+        factor,
+        grace: GRACE,
+        expiry: EXPIRY,
+    }
+}
+
+fn factor_line(ring: &Ring, words: &[&str]) -> Result<HeadStage, Fault>
     ensures { result ≡ factor_line_of ring.now (texts_of words.now) }
 {
     let [word, factor] = words else {
@@ -100,16 +126,123 @@ pub fn factor_line(ring: &Ring, words: &[&str]) -> Result<Stage, Fault>
         return Err(Fault::Head);
     }
     match number_within(factor, 1, u64::from(ring.nodes())) {
-        Some(factor) => Ok(Stage::Run(*ring, factor as u8)),
+        Some(factor) => Ok(HeadStage::Grace(first_settings(ring, factor as u8))),
         None => Err(Fault::Number),
     }
 }
 
-pub fn run_line(ring: &Ring, factor: u8, words: &[&str]) -> Result<Stage, Fault>
-    ensures { result ≡ run_line_of ring.now factor (texts_of words.now) }
+/// Whether the first word is this.
+fn is_first(first: &str, words: &[&str]) -> bool
+    ensures { result ≡ is_first_word first.now (texts_of words.now) }
 {
     match words {
-        [word] if *word == "run" => Ok(Stage::Events(*ring, factor)),
+        [word, ..] => *word == first,
+        [] => false,
+    }
+}
+
+/// The line `grace`, whose first word is known.
+fn grace_line(settings: &Settings, words: &[&str]) -> Result<HeadStage, Fault>
+    ensures { result ≡ grace_line_of settings.now (texts_of words.now) }
+{
+    let [_, seconds] = words else {
+        return Err(Fault::Head);
+    };
+    if !is_number(seconds) {
+        return Err(Fault::Head);
+    }
+    match number_within(seconds, 0, MOST_GRACE) {
+        Some(grace) => Ok(HeadStage::Expiry(Settings { grace, ..*settings })),
+        None => Err(Fault::Number),
+    }
+}
+
+/// The line `expiry`, whose first word is known.
+fn expiry_line(settings: &Settings, words: &[&str]) -> Result<HeadStage, Fault>
+    ensures { result ≡ expiry_line_of settings.now (texts_of words.now) }
+{
+    let [_, seconds] = words else {
+        return Err(Fault::Head);
+    };
+    if !is_number(seconds) {
+        return Err(Fault::Head);
+    }
+    match number_within(seconds, LEAST_EXPIRY, MOST_EXPIRY) {
+        Some(expiry) => Ok(HeadStage::Schema(Settings {
+            expiry,
+            ..*settings
+        })),
+        None => Err(Fault::Number),
+    }
+}
+
+fn run_line(settings: &Settings, words: &[&str]) -> Result<HeadLine, Fault>
+    ensures { result ≡ run_line_of settings.now (texts_of words.now) }
+{
+    match words {
+        [word] if *word == "run" => Ok(HeadLine::Run(*settings)),
         _ => Err(Fault::Head),
+    }
+}
+
+/// What a line behind `grace` says.
+fn later_line(settings: &Settings, words: &[&str]) -> Result<HeadLine, Fault>
+    ensures { result ≡ later_line_of settings.now (texts_of words.now) }
+{
+    if is_first("expiry", words) {
+        return Ok(HeadLine::Next(expiry_line(settings, words)?));
+    }
+    run_line(settings, words)
+}
+
+/// What a line behind `rf` says.
+fn option_line(settings: &Settings, words: &[&str]) -> Result<HeadLine, Fault>
+    ensures { result ≡ option_line_of settings.now (texts_of words.now) }
+{
+    if is_first("grace", words) {
+        return Ok(HeadLine::Next(grace_line(settings, words)?));
+    }
+    later_line(settings, words)
+}
+
+/// What words say where they have to be this.
+fn head_words(alloc: Global, stage: &HeadStage, words: &[&str]) -> Result<HeadLine, LineError>
+    ensures { LineGives result (head_words_of stage.now (texts_of words.now)) }
+{
+    match stage {
+        HeadStage::Version => Ok(HeadLine::Next(version_line(words)?)),
+        HeadStage::Ring => Ok(HeadLine::Next(ring_line(alloc, words)?)),
+        HeadStage::Factor(ring) => Ok(HeadLine::Next(factor_line(ring, words)?)),
+        HeadStage::Grace(settings) => Ok(option_line(settings, words)?),
+        HeadStage::Expiry(settings) => Ok(later_line(settings, words)?),
+        HeadStage::Schema(settings) => Ok(run_line(settings, words)?),
+    }
+}
+
+/// The statement of a line `schema`, where the schema has its place.
+fn statement_at(alloc: Global, stage: &HeadStage, text: &str) -> Result<HeadLine, LineError>
+    ensures { LineGives result (statement_at_of stage.now text.now) }
+{
+    match stage {
+        HeadStage::Grace(settings) | HeadStage::Expiry(settings) | HeadStage::Schema(settings) => {
+            Ok(HeadLine::Schema(*settings, Text::from_str(alloc, text)?))
+        }
+        HeadStage::Version | HeadStage::Ring | HeadStage::Factor(_) => {
+            Err(LineError::Fault(Fault::Head))
+        }
+    }
+}
+
+/// What a line of the head says where it has to be this.
+pub fn head_line(alloc: Global, stage: &HeadStage, line: &[u8]) -> Result<HeadLine, LineError>
+    requires { 0 < length line.now }
+    ensures { LineGives result (head_line_of stage.now line.now) }
+{
+    if let Some(text) = behind(line, b"schema ") {
+        return statement_at(alloc, stage, text);
+    }
+    match words(alloc, line)? {
+        Some(words) => head_words(alloc, stage, &words),
+        None => Err(LineError::Fault(Fault::Head)),
     }
 }

@@ -1,6 +1,6 @@
 //! Laws of scripts, which each call of a function of this module gives to its caller.
 
-ghost use Rattle.fault_script.specs.Laws.{EventsAreAtNodes, ScriptsHaveARing};
+ghost use Rattle.fault_script.specs.Laws.{EventsAreAtNodes, OneReading, ScriptsHaveARing, ScriptsHaveTheirSchema, StatementsAreRead};
 
 /// The tokens of a script are a ring, and its factor is one that the ring has.
 pub fn scripts_have_a_ring()
@@ -11,3 +11,22 @@ pub fn scripts_have_a_ring()
 pub fn events_are_at_nodes()
     ensures { EventsAreAtNodes }
 {}
+
+/// The text of each line `cql` is one statement.
+pub fn statements_are_read()
+    ensures { StatementsAreRead }
+{}
+
+/// The statements of the head make the schema.
+pub fn scripts_have_their_schema()
+    ensures { ScriptsHaveTheirSchema }
+{}
+
+/// A text is one script, or is refused for one thing.
+pub fn one_reading()
+    ensures { OneReading }
+{
+    cql_parser::one_reading();
+    cql_parser::one_refusal();
+    cql_parser::no_refusal();
+}

@@ -2,24 +2,33 @@
 //!
 //! A script is lines of words, with one or more spaces between them. Empty lines and lines that begin with `#` are passed
 //! over. The head is `cassandra-script 1`, `ring <token> ..` with one token for each node, `rf <factor>` for the table
-//! `script.kv`, and `run`. Then come events: `put <node> <level> <key> <row> <timestamp> <value>`,
-//! `get <node> <level> <key>`, `deliver <from> <to> <number>`, `drop <from> <to> <number>` and `settle <count>`. Nodes are
-//! numbers from 0 on, and levels are Cassandra's names in capitals.
+//! `script.kv`, then, where they are wanted, `grace <seconds>` and `expiry <seconds>`, then any number of
+//! `schema <statement>`, and `run`. Then come events: `put <node> <level> <key> <row> <timestamp> <value>`,
+//! `get <node> <level> <key>`, `cql <node> <level> <statement>`, `deliver <from> <to> <number>`,
+//! `drop <from> <to> <number>` and `settle <count>`. Nodes are numbers from 0 on, and levels are Cassandra's names in
+//! capitals. A statement is the rest of its line.
 #![tactic(auto)]
 
+mod error;
 mod events;
 mod head;
 mod laws;
 mod lines;
 mod numbers;
 mod reader;
+mod schema_lines;
 mod script;
+mod statements;
 #[cfg(test)]
 mod tests;
 
-pub use laws::{events_are_at_nodes, scripts_have_a_ring};
-pub use reader::{LONGEST_SCRIPT, ParseError, parse};
+pub use error::ParseError;
+pub use laws::{
+    events_are_at_nodes, one_reading, scripts_have_a_ring, scripts_have_their_schema,
+    statements_are_read,
+};
+pub use reader::{LONGEST_SCRIPT, MOST_LINES, parse};
 pub use script::{
-    Fault, GetRequest, MessagePlace, PutRequest, Script, ScriptError, ScriptEvent, ScriptEvents,
-    Stage,
+    CqlRequest, GetRequest, MessagePlace, PutRequest, Script, ScriptError, ScriptEvent,
+    ScriptEvents, Texts,
 };

@@ -1,17 +1,14 @@
 //! The lines of a script, and the words of a line.
 
-ghost use Rattle.std.specs.Prelude.{◌≡◌, ◌<◌, ◌∷◌, ◌==◌, length, filter, not, true, false, IfOk, MatchOption};
+ghost use Rattle.std.specs.Prelude.{◌≡◌, ◌<◌, ◌∷◌, ◌==◌, length, filter, not, true, false, Some, None, IfOk, MatchOption, option_copied};
 ghost use Rattle.std.specs.Option.{option_map};
 ghost use Rattle.std.specs.List.{slice_split};
-ghost use Rattle.fault_script.specs.Script.{lines_of, is_skipped as is_skipped_line, is_well_formed as is_well_formed_line, words_of};
+ghost use Rattle.fault_script.specs.Lines.{lines_of, is_skipped as is_skipped_line, is_well_formed as is_well_formed_line, words_of, without_spaces as without_spaces_of, first_word as first_word_of, behind as behind_of};
 ghost use Rattle.fault_script.specs.Words.{texts_of};
 
 use memchr::memchr;
 use std::alloc::{AllocError, Global};
 use std::str;
-
-/// The longest line that is understood, in bytes.
-const LONGEST_LINE: usize = 4096;
 
 /// The first line of a text that isn't empty, and the text behind it.
 pub fn first_line(text: &[u8]) -> (&[u8], &[u8])
@@ -48,14 +45,11 @@ fn remove_empty(words: &mut Vec<&str>)
     words.retain(|word| !word.is_empty());
 }
 
-/// The line as a text, where it is one, isn't too long and has no space at an end.
+/// The line as a text, where it is one and has no space at an end.
 fn well_formed(line: &[u8]) -> Option<&str>
     requires { 0 < length line.now }
     ensures { MatchOption result (is_well_formed_line line.now ≡ false) (λ text. (text.now ≡ line.now) × (is_well_formed_line line.now ≡ true)) }
 {
-    if line.len() > LONGEST_LINE {
-        return None;
-    }
     if line[0] == b' ' || line[line.len() - 1] == b' ' {
         return None;
     }
@@ -65,7 +59,7 @@ fn well_formed(line: &[u8]) -> Option<&str>
     Some(text)
 }
 
-/// The words of a line, or None where it is too long, no text, or has a space at an end.
+/// The words of a line, or None where it is no text or has a space at an end.
 pub fn words(alloc: Global, line: &[u8]) -> Result<Option<Vec<&str>>, AllocError>
     requires { 0 < length line.now }
     ensures { IfOk result (λ words. option_map (λ v. texts_of v.items) words ≡ words_of line.now) }
@@ -76,4 +70,31 @@ pub fn words(alloc: Global, line: &[u8]) -> Result<Option<Vec<&str>>, AllocError
     let mut words = pieces(alloc, text)?;
     remove_empty(&mut words);
     Ok(Some(words))
+}
+
+/// The text without the spaces in front of it.
+fn without_spaces(text: &str) -> &str
+    ensures { result.now ≡ without_spaces_of text.now }
+{
+    text.trim_start_matches(' ')
+}
+
+/// The word in front of the first space, and what stands behind the spaces that follow it.
+pub fn first_word(text: &str) -> Option<(&str, &str)>
+    ensures { MatchOption result (first_word_of text.now ≡ None) (λ found. first_word_of text.now ≡ Some (found.0.now, found.1.now)) }
+{
+    let (word, rest) = text.split_once(' ')?;
+    Some((word, without_spaces(rest)))
+}
+
+/// What stands behind this beginning of a line and the spaces that follow it, where the line begins so and the rest is a
+/// text.
+pub fn behind<'a>(line: &'a [u8], beginning: &[u8]) -> Option<&'a str>
+    ensures { option_copied result ≡ behind_of beginning.now line.now }
+{
+    let rest = line.strip_prefix(beginning)?;
+    match str::from_utf8(rest) {
+        Ok(text) => Some(without_spaces(text)),
+        Err(_) => None,
+    }
 }

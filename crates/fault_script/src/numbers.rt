@@ -3,7 +3,7 @@
 ghost use Rattle.std.specs.Prelude.{◌≡◌, ◌≤◌, true, false, IsTrue, IfSome, MatchOption};
 ghost use Rattle.std.specs.Char.{is_ascii_digit};
 ghost use Rattle.std.specs.List.{list_all};
-ghost use Rattle.fault_script.specs.Script.{is_number as is_number_word, is_signed_number as is_signed_word, within as within_bounds, number_within as number_of, node_of as node_of_word, level_of as level_of_word, signed_value, is_long_word};
+ghost use Rattle.fault_script.specs.Lines.{is_number as is_number_word, is_signed_number as is_signed_word, within as within_bounds, number_within as number_of, node_of as node_of_word, level_of as level_of_word, signed_value, is_long_word};
 
 use cs_base::{Level, NodeId};
 

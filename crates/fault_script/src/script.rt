@@ -3,27 +3,40 @@
 ghost use Rattle.std.specs.Prelude.{◌≡◌};
 ghost use Rattle.fault_script.specs.declared.script.LineError.TheVariants.{Fault as LineFault, NoMemory as LineMemory};
 
-use cs_base::{Bytes, Items, Level, NodeId};
+use cs_base::{Items, Level, NodeId, Text};
+use schema_book::Schema;
 use std::alloc::AllocError;
+use thiserror::Error;
 use token_ring::Ring;
 
 /// The nodes of a run, and what happens to them, in order.
-#[derive(Debug, Drop)]
+#[derive(Drop)]
 pub struct Script {
     /// The nodes' tokens.
     pub ring: Ring,
     /// The replication factor of `script.kv`, from 1 to the number of nodes.
     pub factor: u8,
+    /// For how many seconds a deletion is kept in tables that don't say.
+    pub grace: u64,
+    /// After how many seconds a message is too old.
+    pub expiry: u64,
+    /// The statements of the schema, as they are written.
+    pub statements: Texts,
+    /// What they make.
+    pub schema: Schema,
     pub events: ScriptEvents,
 }
+
+pub type Texts = Items<Text>;
 
 pub type ScriptEvents = Items<ScriptEvent>;
 
 /// A line after `run`.
-#[derive(Debug, PartialEq, Eq, Drop)]
+#[derive(Debug, Drop)]
 pub enum ScriptEvent {
     Put(PutRequest),
     Get(GetRequest),
+    Cql(CqlRequest),
     /// Delivers a message.
     Deliver(MessagePlace),
     /// Lets `settle` pass over a message.
@@ -33,23 +46,31 @@ pub enum ScriptEvent {
 }
 
 /// A line `put`: it sets the column `v` of a row of `script.kv`.
-#[derive(Debug, PartialEq, Eq, Drop)]
+#[derive(Debug, Drop)]
 pub struct PutRequest {
     pub node: NodeId,
     pub level: Level,
-    pub key: Bytes,
+    pub key: Text,
     /// The row's clustering text.
-    pub row: Bytes,
+    pub row: Text,
     pub timestamp: i64,
-    pub value: Bytes,
+    pub value: Text,
 }
 
 /// A line `get`: it reads the rows of a partition of `script.kv`.
-#[derive(Debug, PartialEq, Eq, Drop)]
+#[derive(Debug, Drop)]
 pub struct GetRequest {
     pub node: NodeId,
     pub level: Level,
-    pub key: Bytes,
+    pub key: Text,
+}
+
+/// A line `cql`: a statement as it is written.
+#[derive(Debug, Drop)]
+pub struct CqlRequest {
+    pub node: NodeId,
+    pub level: Level,
+    pub text: Text,
 }
 
 /// The message that is this one, from 1 on, of all that one node ever sends to another. There is no message 0.
@@ -70,29 +91,59 @@ pub enum Fault {
 }
 
 /// Why a script is refused, with the number of the line, from 1 on.
-#[derive(Clone, Copy, Debug, PartialEq, Eq)]
+#[derive(Clone, Copy, Debug, PartialEq, Eq, Error)]
 pub enum ScriptError {
+    /// A line of the head that is missing or misplaced, or whose statement the schema refuses.
+    #[error("{0}: head expected")]
     Head(u64),
+    #[error("{0}: line not understood")]
     Line(u64),
+    #[error("{0}: number out of range")]
     Number(u64),
+    /// A text that is no statement, and the offset within it, in bytes, at which it stops to be one. It is the text's
+    /// length where that has too many tokens.
+    #[error("{0}: cql refused at {1}")]
+    Cql(u64, usize),
+    /// More than 64 MiB.
+    #[error("script too long")]
     TooLong,
+    /// More than 1,000,000 lines behind `run`.
+    #[error("too many lines")]
+    TooMany,
 }
 
-/// What the next line that counts has to be, with the ring and the factor that were found so far.
+/// What the head says before its statements.
 #[derive(Clone, Copy, Debug)]
-pub enum Stage {
+pub struct Settings {
+    pub ring: Ring,
+    pub factor: u8,
+    pub grace: u64,
+    pub expiry: u64,
+}
+
+/// What the next line of the head has to be, with what was found so far.
+#[derive(Clone, Copy, Debug)]
+pub enum HeadStage {
     Version,
     Ring,
     Factor(Ring),
-    Run(Ring, u8),
-    Events(Ring, u8),
+    /// `grace`, or what may follow it.
+    Grace(Settings),
+    /// `expiry`, or what may follow it.
+    Expiry(Settings),
+    /// `schema` or `run`.
+    Schema(Settings),
 }
 
-/// What a line gives: a line of the head what has to follow it, and a later one an event.
-#[derive(Debug, Drop)]
-pub enum LineRead {
-    Next(Stage),
-    Event(ScriptEvent),
+/// What a line of the head says.
+#[derive(Drop)]
+pub enum HeadLine {
+    /// What has to follow it.
+    Next(HeadStage),
+    /// A statement of the schema.
+    Schema(Settings, Text),
+    /// The line `run`.
+    Run(Settings),
 }
 
 /// Why a line gave nothing.

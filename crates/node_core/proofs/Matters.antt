@@ -8,12 +8,13 @@ use Rattle.cs_base.specs.declared.ids.ReqId.{ReqId}
 use Rattle.peer_messages.specs.declared.event.Ask.{Ask}
 use Rattle.changes.specs.declared.DraftMutation.{DraftMutation}
 use Rattle.changes.specs.declared.Query.{Query}
+use Rattle.statement_plan.specs.declared.plan.Columns.{Columns}
 use Rattle.peer_messages.specs.declared.event.Plan.{Plan}
 use Rattle.peer_messages.specs.declared.event.Plan.TheVariants as plan
 use Rattle.node_core.specs.Here.{BeginsWrite, BeginsRead}
 use Rattle.peer_messages.specs.declared.message.Message.{Message}
 use Rattle.peer_messages.specs.declared.chronicle.Entry.{Entry}
-use Rattle.peer_messages.specs.declared.chronicle.Entry.TheVariants.{Refused}
+use Rattle.peer_messages.specs.declared.chronicle.Entry.TheVariants.{Refused, Used}
 use Rattle.peer_messages.specs.declared.chronicle.Refusal.{Refusal}
 use Rattle.peer_messages.specs.declared.setting.Setting.{Setting}
 use Rattle.node_steps.specs.State.{NodeState}
@@ -69,10 +70,22 @@ write_taken c id ask d k k' g is none before b =
       upto = write_upto c id ask.level d k k' g b (upto_before id.time k before);
     })
 
-pub read_taken : (c : Setting) (id : ReqId) (ask : Ask) (q : Query) (k k' : Kept) (g : Given) → ask.plan ≡ plan.Read q → refusal_of c ask.plan ask.level ≡ None → AreBefore id.time k
-    → BeginsRead c id ask.level q k k' g → Takes c id.node id.time (Asks ask ∷ []) k k' g
-read_taken c id ask q k k' g is none before b =
-    subst (λ (a : Ask). Takes c id.node id.time (Asks a ∷ []) k k' g) (ask_made ask (plan.Read q) is) (record {
-      gives = read_gives c id ask.level q k k' g (subst (λ (p : Plan). refusal_of c p ask.level ≡ None) is none) b;
-      upto = read_upto c id ask.level q k k' g b (upto_before id.time k before);
+pub read_taken : (c : Setting) (id : ReqId) (ask : Ask) (q : Query) (v : Columns) (k k' : Kept) (g : Given) → ask.plan ≡ plan.Read q v → refusal_of c ask.plan ask.level ≡ None → AreBefore id.time k
+    → BeginsRead c id ask.level q v k k' g → Takes c id.node id.time (Asks ask ∷ []) k k' g
+read_taken c id ask q v k k' g is none before b =
+    subst (λ (a : Ask). Takes c id.node id.time (Asks a ∷ []) k k' g) (ask_made ask (plan.Read q v) is) (record {
+      gives = read_gives c id ask.level q v k k' g (subst (λ (p : Plan). refusal_of c p ask.level ≡ None) is none) b;
+      upto = read_upto c id ask.level q v k k' g b (upto_before id.time k before);
+    })
+
+-- a keyspace is named
+pub used_taken : (c : Setting) (id : ReqId) (ask : Ask) (keyspace : List ℕ) (k : Kept) (g : Given) → ask.plan ≡ plan.Use keyspace → g.messages ≡ [] → g.entries ≡ Used id keyspace ∷ []
+    → AreBefore id.time k → Takes c id.node id.time (Asks ask ∷ []) k k g
+used_taken c id ask keyspace k g is messages entries before =
+    let s = state_of id.time k in
+    let asked : Ask = record { plan = plan.Use keyspace; level = ask.level } in
+    let o : Effects = record { sends = []; entries = Used id keyspace ∷ [] } in
+    subst (λ (a : Ask). Takes c id.node id.time (Asks a ∷ []) k k g) (ask_made ask (plan.Use keyspace) is) (record {
+      gives = one_move c id.node s (Asks asked) o s g (refl, refl) refl messages entries;
+      upto = upto_before id.time k before;
     })

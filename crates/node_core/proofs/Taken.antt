@@ -13,6 +13,7 @@ use Rattle.changes.specs.declared.Change.{Change}
 use Rattle.changes.specs.declared.Mutation.{Mutation}
 use Rattle.changes.specs.declared.DraftMutation.{DraftMutation}
 use Rattle.changes.specs.declared.Query.{Query}
+use Rattle.statement_plan.specs.declared.plan.Columns.{Columns}
 use Rattle.changes.specs.Drafts.{mutation_of}
 use Rattle.changes.specs.Shown.{IsShown}
 use Rattle.changes.specs.declared.ShownRow.{ShownRow}
@@ -155,24 +156,24 @@ write_gives c id l d k k' g' none b =
 
 -- ---- a read begins
 
-read_elsewhere : (c : Setting) (id : ReqId) (l : Level) (q : Query) (k k' : Kept) (g' : Given) → refusal_of c (plan.Read q) l ≡ None → (b : BeginsRead c id l q k k' g')
-    → own_sends id.node (start_read c id l q).sends ≡ [] → b.opened.own ≡ None
-    → Gives c id.node (state_of id.time k) (Asks (record { plan = plan.Read q; level = l }) ∷ []) g' (state_of id.time k')
-read_elsewhere c id l q k k' g' none b sends own =
-    let ask : Ask = record { plan = plan.Read q; level = l } in
+read_elsewhere : (c : Setting) (id : ReqId) (l : Level) (q : Query) (v : Columns) (k k' : Kept) (g' : Given) → refusal_of c (plan.Read q v) l ≡ None → (b : BeginsRead c id l q v k k' g')
+    → own_sends id.node (start_read c id l q v).sends ≡ [] → b.opened.own ≡ None
+    → Gives c id.node (state_of id.time k) (Asks (record { plan = plan.Read q v; level = l }) ∷ []) g' (state_of id.time k')
+read_elsewhere c id l q v k k' g' none b sends own =
+    let ask : Ask = record { plan = plan.Read q v; level = l } in
     let r = subst (λ (o : Option Body). ReadsAs c id (started_read l q) o k k' b.opened.given g') own b.reads in
-    one_move c id.node (state_of id.time k) (Asks ask) (effects_of (start_read c id l q)) (state_of id.time k') g'
-    (begins c id.node (state_of id.time k) ask (effects_of (start_read c id l q)) (state_of id.time k') none
+    one_move c id.node (state_of id.time k) (Asks ask) (effects_of (start_read c id l q v)) (state_of id.time k') g'
+    (begins c id.node (state_of id.time k) ask (effects_of (start_read c id l q v)) (state_of id.time k') none
     (refl, state_made id.time _ _ _ _ _ _ (ap all_of r.1) r.2 r.3))
     sends
     (ap (λ (g : Given). g.messages) r.0 ∙ b.opens.messages)
     (ap (λ (g : Given). g.entries) r.0 ∙ b.opens.entries)
 
-read_at_home : (c : Setting) (id : ReqId) (l : Level) (q : Query) (k k' : Kept) (g' : Given) → refusal_of c (plan.Read q) l ≡ None → (b : BeginsRead c id l q k k' g')
-    → own_sends id.node (start_read c id l q).sends ≡ heard_here id.node id (Read q) ∷ [] → b.opened.own ≡ Some (Read q)
-    → Gives c id.node (state_of id.time k) (Asks (record { plan = plan.Read q; level = l }) ∷ []) g' (state_of id.time k')
-read_at_home c id l q k k' g' none b sends own =
-    let ask : Ask = record { plan = plan.Read q; level = l } in
+read_at_home : (c : Setting) (id : ReqId) (l : Level) (q : Query) (v : Columns) (k k' : Kept) (g' : Given) → refusal_of c (plan.Read q v) l ≡ None → (b : BeginsRead c id l q v k k' g')
+    → own_sends id.node (start_read c id l q v).sends ≡ heard_here id.node id (Read q) ∷ [] → b.opened.own ≡ Some (Read q)
+    → Gives c id.node (state_of id.time k) (Asks (record { plan = plan.Read q v; level = l }) ∷ []) g' (state_of id.time k')
+read_at_home c id l q v k k' g' none b sends own =
+    let ask : Ask = record { plan = plan.Read q v; level = l } in
     let h : ReadsHere c id (started_read l q) q k k' b.opened.given g' = subst (λ (o : Option Body). ReadsAs c id (started_read l q) o k k' b.opened.given g') own b.reads in
     let s = state_of id.time k in
     let inserted = insert_entry request_cmp k.reads.entries id (started_read l q) in
@@ -182,12 +183,12 @@ read_at_home c id l q k k' g' none b sends own =
     (record {
       second = heard_here id.node id (Read q);
       third = heard_here id.node id (ReadReply h.part);
-      o1 = effects_of (start_read c id l q);
+      o1 = effects_of (start_read c id l q v);
       o2 = replies (record { from = id.node; request = id }) (ReadReply h.part);
       o3 = effects_of h.turn;
       s1 = s1;
       s2 = s1;
-      does1 = begins c id.node s ask (effects_of (start_read c id l q)) s1 none (refl, refl);
+      does1 = begins c id.node s ask (effects_of (start_read c id l q v)) s1 none (refl, refl);
       does2 = (h.part, h.answer, refl, refl);
       does3 = (h.turn, h.hears, refl, state_made id.time _ _ _ _ _ _ (ap all_of h.contents) h.writes refl);
       own1 = sends;
@@ -199,12 +200,12 @@ read_at_home c id l q k k' g' none b sends own =
       entries = h.goes_on.entries ∙ ap (λ (es : List Entry). es ++ h.turn.entries) b.opens.entries;
     })
 
-pub read_gives : (c : Setting) (id : ReqId) (l : Level) (q : Query) (k k' : Kept) (g' : Given) → refusal_of c (plan.Read q) l ≡ None → BeginsRead c id l q k k' g'
-    → Gives c id.node (state_of id.time k) (Asks (record { plan = plan.Read q; level = l }) ∷ []) g' (state_of id.time k')
-read_gives c id l q k k' g' none b =
+pub read_gives : (c : Setting) (id : ReqId) (l : Level) (q : Query) (v : Columns) (k k' : Kept) (g' : Given) → refusal_of c (plan.Read q v) l ≡ None → BeginsRead c id l q v k k' g'
+    → Gives c id.node (state_of id.time k) (Asks (record { plan = plan.Read q v; level = l }) ∷ []) g' (state_of id.time k')
+read_gives c id l q v k k' g' none b =
     elim (goes_to_replicas c id.node id (Read q) q.partition) [
-      | inl here ↦ read_at_home c id l q k k' g' none b here.sends (b.opens.own ∙ here.body_is)
-      | inr away ↦ read_elsewhere c id l q k k' g' none b away.sends (b.opens.own ∙ away.no_body)
+      | inl here ↦ read_at_home c id l q v k k' g' none b here.sends (b.opens.own ∙ here.body_is)
+      | inr away ↦ read_elsewhere c id l q v k k' g' none b away.sends (b.opens.own ∙ away.no_body)
     ]
 
 -- ---- a body of another node comes

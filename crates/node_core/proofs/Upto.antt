@@ -18,6 +18,7 @@ use Rattle.cs_base.specs.Requests.{request_cmp}
 use Rattle.changes.specs.declared.Held.{Held}
 use Rattle.changes.specs.declared.DraftMutation.{DraftMutation}
 use Rattle.changes.specs.declared.Query.{Query}
+use Rattle.statement_plan.specs.declared.plan.Columns.{Columns}
 use Rattle.peer_messages.specs.declared.message.Body.{Body}
 use Rattle.peer_messages.specs.declared.message.Body.TheVariants.{Write, WriteAck, Read, ReadReply}
 use Rattle.peer_messages.specs.declared.outcome.Move.{Move}
@@ -77,8 +78,8 @@ write_upto c id l d k k' g' b upto =
           (same_keys id.time _ _ w.2 inserted, same_keys id.time _ _ w.3 upto.1)
     ]
 
-pub read_upto : (c : Setting) (id : ReqId) (l : Level) (q : Query) (k k' : Kept) (g' : Given) → BeginsRead c id l q k k' g' → AreUpto id.time k → AreUpto id.time k'
-read_upto c id l q k k' g' b upto =
+pub read_upto : (c : Setting) (id : ReqId) (l : Level) (q : Query) (v : Columns) (k k' : Kept) (g' : Given) → BeginsRead c id l q v k k' g' → AreUpto id.time k → AreUpto id.time k'
+read_upto c id l q v k k' g' b upto =
     let inserted = new_upto id (started_read l q) k.reads.entries upto.1 in
     elim (goes_to_replicas c id.node id (Read q) q.partition) [
       | inl here ↦

@@ -8,6 +8,7 @@ use Rattle.cs_base.specs.Requests.{request_cmp}
 use Rattle.changes.specs.declared.Held.{Held}
 use Rattle.changes.specs.declared.Mutation.{Mutation}
 use Rattle.changes.specs.declared.Query.{Query}
+use Rattle.statement_plan.specs.declared.plan.Columns.{Columns}
 use Rattle.peer_messages.specs.declared.outcome.Move.{Move}
 use Rattle.peer_messages.specs.declared.setting.Setting.{Setting}
 use Rattle.node_steps.specs.State.{OpenWrite, OpenRead}
@@ -104,9 +105,9 @@ ReadsAs c id r None k k' g g' = (g' ≡ g) × (k'.contents.entries ≡ k.content
 ReadsAs c id r (Some (Read q)) k k' g g' = ReadsHere c id r q k k' g g'
 ReadsAs c id r (Some b) k k' g g' = Unit {0}
 
-pub record BeginsRead (c : Setting) (id : ReqId) (l : Level) (q : Query) (k k' : Kept) (g' : Given) : Type 0 where
+pub record BeginsRead (c : Setting) (id : ReqId) (l : Level) (q : Query) (columns : Columns) (k k' : Kept) (g' : Given) : Type 0 where
   pub opened : Opened
-  pub opens : Opens id (start_read c id l q) opened
+  pub opens : Opens id (start_read c id l q columns) opened
   pub reads : ReadsAs c id (started_read l q) opened.own k k' opened.given g'
 
 -- ---- a body of another node

@@ -22,6 +22,7 @@ use changes::{DraftMutation, Mutation, Partition, Query};
 use cs_base::{Items, Level, Micros, NodeId, ReqId};
 use peer_messages::{Body, Entries, Message, Messages, Move, Outbound, Sends, Setting};
 use read_coord::ReadCoord;
+use statement_plan::Columns;
 use std::alloc::{AllocError, Global};
 use std::collections::BTreeMap;
 use write_coord::WriteCoord;
@@ -362,10 +363,11 @@ impl Kept {
         request: ReqId,
         level: Level,
         query: &Query,
+        columns: Columns,
     ) -> Result<Given, AllocError>
         requires ordered { IsOrdered partition_cmp self.old.contents }
         requires new { open_at self.old.reads.entries request ≡ None }
-        ensures ok { IfOk result (λ given. BeginsRead setting.now request level query.now self.old self.new given) }
+        ensures ok { IfOk result (λ given. BeginsRead setting.now request level query.now columns self.old self.new given) }
         ensures ordered { IsOrdered partition_cmp self.new.contents }
         ensures err { OnErr result (IsSameKept self.old self.new) }
     {
@@ -373,7 +375,7 @@ impl Kept {
         let opened = open_with(
             alloc,
             request,
-            read_coord::opening(alloc, setting, request, level, query)?,
+            read_coord::opening(alloc, setting, request, level, query, columns)?,
         )?;
         self.open_read(alloc, setting, request, read, opened)
     }

@@ -3,8 +3,8 @@
 ghost use Rattle.std.specs.Prelude.{◌≡◌, ◌≢◌, ◌<◌, ◌^◌, ◌↔◌, ◌∷◌, [], None, Some, IsTrue, IfOk, OnErr};
 ghost use Rattle.std.specs.BTreeMap.{IsOrdered};
 ghost use Rattle.changes.specs.Order.{partition_cmp};
-ghost use Rattle.peer_messages.specs.declared.chronicle.Entry.TheVariants.{Refused};
-ghost use Rattle.node_steps.specs.Requests.{refusal_of, unavailable, serial_refusal, partition_of as partition_of_plan};
+ghost use Rattle.peer_messages.specs.declared.chronicle.Entry.TheVariants.{Refused, Used};
+ghost use Rattle.node_steps.specs.Requests.{refusal_of, refusal_at as refusal_at_of, unavailable};
 ghost use Rattle.node_steps.specs.Acts.{Asks, Hears};
 ghost use Rattle.node_steps.specs.Steps.{matter_of, heard_matter, message_fits, body_fits};
 
@@ -13,24 +13,6 @@ use changes::Partition;
 use cs_base::{Items, Level, Micros, NodeId, ReqId};
 use peer_messages::{Ask, Body, Entry, Invalid, Message, Plan, Refusal, Setting, What};
 use std::alloc::{AllocError, Global};
-
-fn partition_of(plan: &Plan) -> &Partition
-    ensures { result.now ≡ partition_of_plan plan.now }
-{
-    match plan {
-        Plan::Write(draft) => &draft.partition,
-        Plan::Read(query) => &query.partition,
-    }
-}
-
-fn serial_refusal_of(plan: &Plan) -> Invalid
-    ensures { result ≡ serial_refusal plan.now }
-{
-    match plan {
-        Plan::Write(_) => Invalid::SerialWrite,
-        Plan::Read(_) => Invalid::Level,
-    }
-}
 
 fn unavailable_at(setting: &Setting, level: Level, partition: &Partition) -> Option<Refusal>
     ensures { result ≡ unavailable setting.now level partition.now }
@@ -43,18 +25,34 @@ fn unavailable_at(setting: &Setting, level: Level, partition: &Partition) -> Opt
     None
 }
 
-/// Why a request is refused at once.
-pub(crate) fn refusal(setting: &Setting, plan: &Plan, level: Level) -> Option<Refusal>
-    ensures { result ≡ refusal_of setting.now plan.now level }
+/// Why a request for a partition is refused at once; `serial` is why it is at a level of conditional updates.
+fn refusal_at(
+    setting: &Setting,
+    partition: &Partition,
+    level: Level,
+    serial: Invalid,
+) -> Option<Refusal>
+    ensures { result ≡ refusal_at_of setting.now partition.now level serial }
 {
-    let partition = partition_of(plan);
     if !setting.has_table(partition.table) {
         return Some(Refusal::Invalid(Invalid::UnknownTable));
     }
     if level.is_serial() {
-        return Some(Refusal::Invalid(serial_refusal_of(plan)));
+        return Some(Refusal::Invalid(serial));
     }
     unavailable_at(setting, level, partition)
+}
+
+/// Why a request is refused at once.
+pub(crate) fn refusal(setting: &Setting, plan: &Plan, level: Level) -> Option<Refusal>
+    ensures { result ≡ refusal_of setting.now plan.now level }
+{
+    match plan {
+        Plan::Write(draft) => refusal_at(setting, &draft.partition, level, Invalid::SerialWrite),
+        Plan::Read(query, _) => refusal_at(setting, &query.partition, level, Invalid::Level),
+        Plan::Use(_) => None,
+        Plan::Invalid(fault) => Some(Refusal::Invalid(Invalid::Statement(*fault))),
+    }
 }
 
 fn fits_body(setting: &Setting, body: &Body) -> bool
@@ -88,12 +86,13 @@ impl Given {
         }
     }
 
-    fn refused(alloc: Global, request: ReqId, refusal: Refusal) -> Result<Given, AllocError>
+    /// An entry, and no message.
+    fn tells(alloc: Global, entry: Entry) -> Result<Given, AllocError>
         ensures messages { IfOk result (λ given. given.messages ≡ []) }
-        ensures entries { IfOk result (λ given. given.entries ≡ Refused request refusal ∷ []) }
+        ensures entries { IfOk result (λ given. given.entries ≡ entry ∷ []) }
     {
         let mut given = Given::nothing(alloc);
-        given.entries.push(Entry::Refused(request, refusal))?;
+        given.entries.push(entry)?;
         Ok(given)
     }
 }
@@ -107,19 +106,24 @@ impl Kept {
         alloc: Global,
         setting: &Setting,
         request: ReqId,
-        ask: &Ask,
+        ask: Ask,
     ) -> Result<Given, AllocError>
         requires ordered { IsOrdered partition_cmp self.old.contents }
         requires before { AreBefore request.time self.old }
         requires time { request.time < 2 ^ 63 }
-        requires refused { refusal_of setting.now ask.now.plan ask.now.level ≡ None }
-        ensures ok { IfOk result (λ given. Takes setting.now request.node request.time (Asks ask.now ∷ []) self.old self.new given) }
+        requires refused { refusal_of setting.now ask.plan ask.level ≡ None }
+        ensures ok { IfOk result (λ given. Takes setting.now request.node request.time (Asks ask ∷ []) self.old self.new given) }
         ensures ordered { IsOrdered partition_cmp self.new.contents }
         ensures err { OnErr result (IsSameKept self.old self.new) }
     {
-        match &ask.plan {
-            Plan::Write(draft) => self.begin_write(alloc, setting, request, ask.level, draft),
-            Plan::Read(query) => self.begin_read(alloc, setting, request, ask.level, query),
+        let Ask { plan, level } = ask;
+        match plan {
+            Plan::Write(draft) => self.begin_write(alloc, setting, request, level, &draft),
+            Plan::Read(query, columns) => {
+                self.begin_read(alloc, setting, request, level, &query, columns)
+            }
+            Plan::Use(keyspace) => Given::tells(alloc, Entry::Used(request, keyspace)),
+            Plan::Invalid(_) => unreachable!(),
         }
     }
 
@@ -128,17 +132,17 @@ impl Kept {
         alloc: Global,
         setting: &Setting,
         request: ReqId,
-        ask: &Ask,
+        ask: Ask,
     ) -> Result<Given, AllocError>
         requires ordered { IsOrdered partition_cmp self.old.contents }
         requires before { AreBefore request.time self.old }
         requires time { request.time < 2 ^ 63 }
-        ensures ok { IfOk result (λ given. Takes setting.now request.node request.time (Asks ask.now ∷ []) self.old self.new given) }
+        ensures ok { IfOk result (λ given. Takes setting.now request.node request.time (Asks ask ∷ []) self.old self.new given) }
         ensures ordered { IsOrdered partition_cmp self.new.contents }
         ensures err { OnErr result (IsSameKept self.old self.new) }
     {
         match refusal(setting, &ask.plan, ask.level) {
-            Some(refusal) => Given::refused(alloc, request, refusal),
+            Some(refusal) => Given::tells(alloc, Entry::Refused(request, refusal)),
             None => self.begin(alloc, setting, request, ask),
         }
     }
@@ -203,7 +207,7 @@ impl Kept {
         ensures err { OnErr result (IsSameKept self.old self.new) }
     {
         match what {
-            What::Client(ask) => self.take_ask(alloc, setting, ReqId { node: me, time }, &ask),
+            What::Client(ask) => self.take_ask(alloc, setting, ReqId { node: me, time }, ask),
             What::Deliver(message) => self.take_message(alloc, setting, me, time, message),
             What::Tick => Ok(Given::nothing(alloc)),
         }

@@ -2,11 +2,12 @@
 
 use crate::{Node, StepError};
 use changes::{Bound, Draft, DraftMutation, Partition, Place, Query, ShownRow};
-use cs_base::{Bytes, Items, Level, Micros, NodeId, ReqId};
+use cs_base::{Bytes, Items, Level, Micros, NodeId, ReqId, Text};
 use peer_messages::{
     Ask, Body, Entry, Event, Invalid, Message, Messages, Outputs, Plan, Refusal, Setting,
     TableSetting, What,
 };
+use statement_plan::{Columns, Fault};
 use std::alloc::{AllocError, Global};
 use std::test::Fail;
 use token_ring::Ring;
@@ -21,6 +22,7 @@ enum Told {
     /// The first byte of the only value, if a row is shown.
     Shown(Option<u8>),
     Refused(Refusal),
+    Used,
     Other,
 }
 
@@ -82,13 +84,14 @@ fn bound(alloc: Global, after: bool) -> Result<Bound, AllocError> {
 
 /// A read of the whole partition.
 fn read(alloc: Global) -> Result<Plan, AllocError> {
-    Ok(Plan::Read(Query {
+    let query = Query {
         partition: partition(alloc)?,
         from: bound(alloc, false)?,
         upto: bound(alloc, true)?,
         reversed: false,
         limit: 10,
-    }))
+    };
+    Ok(Plan::Read(query, Columns::Count))
 }
 
 fn acknowledgement(from: u8, request: ReqId) -> Result<Message, Fail> {
@@ -143,10 +146,11 @@ fn value_of(rows: &[ShownRow]) -> Option<u8> {
 fn last_told(outputs: &Outputs) -> Told {
     match outputs.entries.as_slice().last() {
         None => Told::Nothing,
-        Some(Entry::Submitted(_, _) | Entry::Began(_, _, _)) => Told::Begun,
+        Some(Entry::Submitted(_, _) | Entry::Began(_, _, _, _)) => Told::Begun,
         Some(Entry::Acked(_, _, heard)) => Told::Acked(heard.as_slice().len()),
         Some(Entry::Rows(_, rows, _, _)) => Told::Shown(value_of(rows.as_slice())),
         Some(Entry::Refused(_, refusal)) => Told::Refused(*refusal),
+        Some(Entry::Used(_, _)) => Told::Used,
         Some(_) => Told::Other,
     }
 }
@@ -277,6 +281,28 @@ fn requests_are_refused(rt: HostRuntime) -> Result<(), Fail> {
     assert!(rt; matches!(serial, Told::Refused(Refusal::Invalid(Invalid::Level))));
     let all = told_at(alloc, &mut alone, read(alloc)?, Level::All)?;
     assert!(rt; matches!(all, Told::Shown(None)));
+    Ok(())
+}
+
+#[test]
+fn statements_without_a_partition_are_answered(rt: HostRuntime) -> Result<(), Fail> {
+    let alloc = rt.alloc();
+    let mut alone = lone_node(alloc)?;
+    let keyspace = Plan::Use(Text::from_str(alloc, "ks")?);
+    assert!(rt;
+        matches!(
+            told_at(alloc, &mut alone, keyspace, Level::Serial)?,
+            Told::Used
+        )
+    );
+    let invalid = Plan::Invalid(Fault::UnknownTable);
+    let told = told_at(alloc, &mut alone, invalid, Level::All)?;
+    assert!(rt;
+        matches!(
+            told,
+            Told::Refused(Refusal::Invalid(Invalid::Statement(Fault::UnknownTable)))
+        )
+    );
     Ok(())
 }
 

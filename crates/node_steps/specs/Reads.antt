@@ -1,6 +1,6 @@
 -- Plain reads at their coordinator: a query goes to every replica, and is answered from the merge of as many replies as its
 -- level waits for. After Cassandra's documentation, "Dynamo: Tunable Consistency" and "Read repair".
-use Rattle.std.specs.Prelude.{◌≡◌, ℕ, ◌||◌, not, nat_lt, Bool, true, false, List, [], ◌∷◌, ◌++◌, MatchBool, Contains}
+use Rattle.std.specs.Prelude.{◌≡◌, ℕ, ◌||◌, not, nat_lt, Bool, false, List, [], ◌∷◌, ◌++◌, MatchBool, Contains}
 use Rattle.cs_base.specs.declared.level.Level.{Level}
 use Rattle.cs_base.specs.declared.ids.ReqId.{ReqId}
 use Rattle.cs_base.specs.Quorums.{is_in, heard_of}
@@ -9,6 +9,7 @@ use Rattle.changes.specs.declared.Query.{Query}
 use Rattle.changes.specs.declared.ShownRow.{ShownRow}
 use Rattle.changes.specs.Contents.{IsMergeOf}
 use Rattle.changes.specs.Shown.{IsShown}
+use Rattle.statement_plan.specs.declared.plan.Columns.{Columns}
 use Rattle.peer_messages.specs.declared.message.Body.TheVariants.{Read}
 use Rattle.peer_messages.specs.declared.chronicle.Entry.TheVariants.{Began, Rows}
 use Rattle.peer_messages.specs.declared.outcome.Move.{Move}
@@ -18,10 +19,10 @@ use Rattle.peer_messages.specs.Moves.{quiet, tells}
 use Rattle.node_steps.specs.State.{OpenRead}
 use Rattle.node_steps.specs.Effects.{send_to}
 
-abbrev pub start_read : Setting → ReqId → Level → Query → Move
-start_read c request level q = record {
+abbrev pub start_read : Setting → ReqId → Level → Query → Columns → Move
+start_read c request level q columns = record {
   sends = send_to request (Read q) (replicas_of c q.partition);
-  entries = Began request q level ∷ [];
+  entries = Began request q level columns ∷ [];
   ended = false;
 }
 

@@ -1,5 +1,5 @@
 -- What a node does as a replica: it takes changes in, and answers what it holds.
-use Rattle.std.specs.Prelude.{◌≡◌, ℕ, ◌↔◌, ◌≢◌, List, [], ◌∷◌, Contains}
+use Rattle.std.specs.Prelude.{ℕ, ◌↔◌, ◌≢◌, List, [], ◌∷◌, Contains}
 use Rattle.cs_base.specs.declared.ids.ReqId.{ReqId}
 use Rattle.changes.specs.declared.Partition.{Partition}
 use Rattle.changes.specs.declared.Held.{Held}

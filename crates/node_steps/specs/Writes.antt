@@ -1,10 +1,9 @@
 -- Plain writes at their coordinator: a write goes to every replica, and is acknowledged once as many have acknowledged it
 -- as its level waits for. After Cassandra's documentation, "Dynamo: Tunable Consistency".
-use Rattle.std.specs.Prelude.{◌≡◌, ℕ, nat_lt, List, [], ◌∷◌, ◌++◌, MatchBool, false}
+use Rattle.std.specs.Prelude.{◌≡◌, ℕ, nat_lt, [], ◌∷◌, MatchBool, false}
 use Rattle.cs_base.specs.declared.level.Level.{Level}
 use Rattle.cs_base.specs.declared.ids.ReqId.{ReqId}
 use Rattle.cs_base.specs.Quorums.{heard_of}
-use Rattle.changes.specs.declared.Partition.{Partition}
 use Rattle.changes.specs.declared.DraftMutation.{DraftMutation}
 use Rattle.changes.specs.Drafts.{mutation_of}
 use Rattle.peer_messages.specs.declared.message.Body.TheVariants.{Write}

@@ -3,7 +3,8 @@
 use crate::nodes::NodeIds;
 use cell_merge::Content;
 use changes::{Mutation, Query, ShownRows};
-use cs_base::{Items, Level, Micros, NodeId, ReqId};
+use cs_base::{Items, Level, Micros, NodeId, ReqId, Text};
+use statement_plan::{Columns, Fault};
 
 /// Why a request is invalid.
 #[derive(Clone, Copy, Debug, PartialEq, Eq)]
@@ -14,6 +15,8 @@ pub enum Invalid {
     Level,
     /// A table that isn't there.
     UnknownTable,
+    /// Its statement asks for nothing that can be done.
+    Statement(Fault),
 }
 
 /// A refusal, as a client is told it.
@@ -42,8 +45,10 @@ pub enum Entry {
     /// A write was acknowledged, and by these replicas.
     Acked(ReqId, Level, NodeIds),
     Refused(ReqId, Refusal),
-    /// A read began.
-    Began(ReqId, Query, Level),
+    /// The keyspace of later statements was named.
+    Used(ReqId, Text),
+    /// A read began, of whose rows this is shown.
+    Began(ReqId, Query, Level, Columns),
     /// It was answered with rows, and with whether a further row would follow.
     Rows(ReqId, ShownRows, bool, Grounds),
     /// The node's time after an event.

@@ -2,13 +2,19 @@
 
 use crate::message::Message;
 use changes::{DraftMutation, Query};
-use cs_base::{Level, Micros};
+use cs_base::{Level, Micros, Text};
+use statement_plan::{Columns, Fault};
 
 /// What a statement asks for.
 #[derive(Drop)]
 pub enum Plan {
     Write(DraftMutation),
-    Read(Query),
+    /// The rows of a query, of which this is shown.
+    Read(Query, Columns),
+    /// The keyspace of later statements. No replica is asked.
+    Use(Text),
+    /// Nothing, since the statement is refused. No replica is asked.
+    Invalid(Fault),
 }
 
 /// A client's request: what it asks for, and how many replicas it waits for.

@@ -1,55 +1,42 @@
 -- Each move keeps what is known.
-use Rattle.std.proofs.Common.{◌≡◌, ◌≢◌, ℕ, ◌⊎◌, ◌<◌, ◌≤◌, inl, inr, Bool, true, false, cond, Option, Some, None, List, [], ◌∷◌, ◌++◌, refl, sym, ap, subst, ◌∙◌, arith, Contains, reverse, map}
-use Rattle.std.specs.Prelude.{slice_get, slice_set, ◌==◌, ◌&&◌, not, if◌then◌else◌, MatchBool, nat_lt}
-use Rattle.std.specs.Ordering.{is_eq, nat_cmp}
-use Rattle.std.specs.declared.cmp.Ordering.{Ordering}
-use Rattle.std.specs.declared.cmp.Ordering.TheVariants.{Less, Equal, Greater}
-use Rattle.std.specs.Map.{lookup, set_value, remove_entry}
-use Rattle.std.specs.BTreeMap.{is_at, insert_entry}
-use Rattle.std.proofs.lemmas.Bool.{cases_Bool}
+use Rattle.std.proofs.Common.{◌≡◌, ℕ, inl, inr, Bool, Option, Some, None, List, [], ◌∷◌, ◌++◌, refl, sym, ap, subst, ◌∙◌, Contains, reverse}
+use Rattle.std.specs.Prelude.{slice_get, slice_set, if◌then◌else◌}
+use Rattle.std.specs.Ordering.{nat_cmp}
+use Rattle.std.specs.declared.cmp.Ordering.TheVariants.{Equal}
+use Rattle.std.specs.BTreeMap.{insert_entry}
 use Rattle.std.proofs.lemmas.Map.Lookups.{exact_unsigned}
 use Rattle.cs_base.specs.declared.ids.ReqId.{ReqId}
 use Rattle.cs_base.specs.declared.level.Level.{Level}
 use Rattle.cs_base.specs.Requests.{request_cmp}
-use Rattle.cs_base.specs.Quorums.{is_in, heard_of}
 use Rattle.changes.specs.declared.Partition.{Partition}
 use Rattle.changes.specs.declared.Held.{Held}
 use Rattle.changes.specs.declared.Mutation.{Mutation}
 use Rattle.changes.specs.declared.DraftMutation.{DraftMutation}
 use Rattle.changes.specs.declared.Query.{Query}
+use Rattle.statement_plan.specs.declared.plan.Columns.{Columns}
 use Rattle.changes.specs.Drafts.{mutation_of}
-use Rattle.changes.specs.Contents.{IsReachedBy, IsMergeOf}
-use Rattle.changes.specs.Queries.{InQuery}
 use Rattle.change_laws.proofs.SignLaws.{then_equal}
 use Rattle.change_laws.proofs.OrderLaws.{request_made}
-use Rattle.change_laws.proofs.Members.{contains_nil, contains_cases, contains_here, contains_there, contains_one, contains_push, contains_from_map, from_insert_entry}
+use Rattle.change_laws.proofs.Members.{contains_nil, contains_cases, contains_here, contains_from_map, from_insert_entry}
 use Rattle.peer_messages.specs.declared.event.Ask.{Ask}
 use Rattle.peer_messages.specs.declared.event.Plan.{Plan}
 use Rattle.peer_messages.specs.declared.event.Plan.TheVariants as plan
-use Rattle.peer_messages.specs.declared.message.Body.{Body}
-use Rattle.peer_messages.specs.declared.message.Body.TheVariants.{Write, WriteAck, Read, ReadReply}
-use Rattle.peer_messages.specs.declared.chronicle.Entry.{Entry}
-use Rattle.peer_messages.specs.declared.chronicle.Entry.TheVariants.{Asked, Submitted, Acked, Refused, Began, Rows, Time, Turned}
+use Rattle.peer_messages.specs.declared.message.Body.TheVariants.{Write, Read}
+use Rattle.peer_messages.specs.declared.chronicle.Entry.TheVariants.{Submitted, Refused, Used, Began}
 use Rattle.peer_messages.specs.declared.chronicle.Refusal.{Refusal}
 use Rattle.peer_messages.specs.declared.outcome.Outbound.{Outbound}
-use Rattle.peer_messages.specs.declared.outcome.Move.{Move}
 use Rattle.peer_messages.specs.declared.setting.Setting.{Setting}
-use Rattle.peer_messages.specs.Settings.{replicas_of, needed, with_heard}
-use Rattle.peer_messages.specs.Moves.{quiet, tells}
+use Rattle.peer_messages.specs.Settings.{replicas_of}
 use Rattle.node_steps.specs.State.{NodeState, OpenWrite, OpenRead, Holds}
-use Rattle.node_steps.specs.Effects.{Effects, nothing, effects_of, outbound, send_to, open_at, after_move, Takes, AtRequest}
-use Rattle.node_steps.specs.Writes.{CountsAck, HearsAck, start_write, started_write}
-use Rattle.node_steps.specs.Reads.{is_stray, TellsRows, CountsReply, MergesReply, HearsReply, start_read, started_read}
-use Rattle.node_steps.specs.Replicas.{Asker, replies, TakesIn, IsAnswerTo}
-use Rattle.node_steps.specs.Requests.{refusal_of, Begins, BeginsOrRefuses}
-use Rattle.node_steps.specs.Acts.{Act, Rises, Hears, Asks, Incoming, Deed, Does, HearsBody, AtWrite, AtRead}
+use Rattle.node_steps.specs.Effects.{Effects, nothing, effects_of, outbound, send_to}
+use Rattle.node_steps.specs.Writes.{start_write, started_write}
+use Rattle.node_steps.specs.Reads.{start_read, started_read}
+use Rattle.node_steps.specs.Requests.{Begins, BeginsOrRefuses}
+use Rattle.node_steps.specs.Acts.{Act, Rises, Asks, Does}
 use Rattle.cluster_runs.specs.Chronicle.{submission_of}
-use Rattle.cluster_runs.specs.Trace.{Scene, WasMade, IsAskAt, MayTake}
-use Rattle.read_consistency.specs.ReadRight.{IsRight}
-use Rattle.read_consistency.proofs.Facts.{WasBegun, Reaches, HasAll, IsOf, Sees, Answers, ReplyOk, BodyIs, BodyOk, WriteOk, ReadIs, ReadOk, NodeOk, AckedOk, Explains}
-use Rattle.read_consistency.proofs.Grows.{Grows, begun_on, has_all_on, of_on, query_on, stands_in, write_on, read_on, node_on, reply_on, answers_on, sees_on, itself, submission_in}
-use Rattle.read_consistency.proofs.Reach.{grown, taken, source, slice_reached, merge_first, merge_second, merge_answers}
-use Rattle.read_consistency.proofs.Answer.{right_answer}
+use Rattle.cluster_runs.specs.Trace.{Scene, MayTake}
+use Rattle.read_consistency.proofs.Facts.{WasBegun, Reaches, IsOf, BodyOk, WriteOk, ReadOk, NodeOk, Explains}
+use Rattle.read_consistency.proofs.Grows.{node_on, itself}
 use Rattle.read_consistency.proofs.Step.{deed_of, quietly, telling, quietly_grows, telling_grows, explains_quietly, explains_telling}
 
 -- the scene behind a move
@@ -92,6 +79,15 @@ refused_case c w k a id r s s' o e at is same =
     (subst (λ (x : NodeState). Explains c (next w k a s (record { sends = []; entries = Refused id r ∷ [] }) x)) (sym same)
     (explains_telling c w k a s s [] (Refused id r) e at (λ p x h. h) tt (node_on c w w' g e s (e.nodes k s at)) (none_sent w' k) tt tt))
 
+used_case : (c : Setting) (w : Scene) (k : ℕ) (a : Act) (id : ReqId) (keyspace : List ℕ) (s s' : NodeState) (o : Effects) → Explains c w → slice_get w.nodes k ≡ Some s → o ≡ record { sends = []; entries = Used id keyspace ∷ [] } → s' ≡ s
+    → Explains c (next w k a s o s')
+used_case c w k a id keyspace s s' o e at is same =
+    let w' = telling w k a s s [] (Used id keyspace) in
+    let g = telling_grows w k a s s [] (Used id keyspace) at (λ p x h. h) tt in
+    subst (λ (x : Effects). Explains c (next w k a s x s')) (sym is)
+    (subst (λ (x : NodeState). Explains c (next w k a s (record { sends = []; entries = Used id keyspace ∷ [] }) x)) (sym same)
+    (explains_telling c w k a s s [] (Used id keyspace) e at (λ p x h. h) tt (node_on c w w' g e s (e.nodes k s at)) (none_sent w' k) tt tt))
+
 -- ---- a write begins
 
 write_case : (c : Setting) (w : Scene) (k : ℕ) (ask : Ask) (s : NodeState) (d : DraftMutation) (l : Level) → Explains c w → slice_get w.nodes k ≡ Some s → MayTake w.past k s (Asks ask)
@@ -127,28 +123,28 @@ write_case c w k ask s d l e at may =
 
 -- ---- a read begins
 
-read_case : (c : Setting) (w : Scene) (k : ℕ) (ask : Ask) (s : NodeState) (q : Query) (l : Level) → Explains c w → slice_get w.nodes k ≡ Some s → MayTake w.past k s (Asks ask)
+read_case : (c : Setting) (w : Scene) (k : ℕ) (ask : Ask) (s : NodeState) (q : Query) (l : Level) (v : Columns) → Explains c w → slice_get w.nodes k ≡ Some s → MayTake w.past k s (Asks ask)
     → let id : ReqId = record { node = k; time = s.time } in
-    Explains c (next w k (Asks ask) s (effects_of (start_read c id l q)) (record s { reads = insert_entry request_cmp s.reads id (started_read l q) }))
-read_case c w k ask s q l e at may =
+    Explains c (next w k (Asks ask) s (effects_of (start_read c id l q v)) (record s { reads = insert_entry request_cmp s.reads id (started_read l q) }))
+read_case c w k ask s q l v e at may =
     let id : ReqId = record { node = k; time = s.time } in
     let ks = replicas_of c q.partition in
     let r : NodeState = record s { reads = insert_entry request_cmp s.reads id (started_read l q) } in
-    let w' = telling w k (Asks ask) s r (send_to id (Read q) ks) (Began id q l) in
+    let w' = telling w k (Asks ask) s r (send_to id (Read q) ks) (Began id q l v) in
     let new : WasBegun w.past id → ⊥ = λ b. may b.0 b.1 b.2 in
-    let g = telling_grows w k (Asks ask) s r (send_to id (Read q) ks) (Began id q l) at (λ p x h. h) new in
+    let g = telling_grows w k (Asks ask) s r (send_to id (Read q) ks) (Began id q l v) at (λ p x h. h) new in
     let old = node_on c w w' g e s (e.nodes k s at) in
-    let begun : WasBegun w'.past id = (deed_of k (Asks ask) s r (effects_of (start_read c id l q)), contains_here _ w.past, (refl, refl, (ask, refl))) in
-    let only : (p : Query) (n : Level) → Contains w'.chronicle (Began id p n) → (p ≡ q) × (n ≡ l) =
-    λ p n h. elim (contains_cases (Began id q l) w.chronicle (Began id p n) h) [
-      | inl here ↦ let is : Began id q l ≡ Began id p n = here in (cc, cc)
-      | inr there ↦ absurd (new (e.entries (Began id p n) there))
+    let begun : WasBegun w'.past id = (deed_of k (Asks ask) s r (effects_of (start_read c id l q v)), contains_here _ w.past, (refl, refl, (ask, refl))) in
+    let only : (p : Query) (n : Level) (u : Columns) → Contains w'.chronicle (Began id p n u) → (p ≡ q) × (n ≡ l) =
+    λ p n u h. elim (contains_cases (Began id q l v) w.chronicle (Began id p n u) h) [
+      | inl here ↦ let is : Began id q l v ≡ Began id p n u = here in (cc, cc)
+      | inr there ↦ absurd (new (e.entries (Began id p n u) there))
     ] in
     let fresh : ReadOk w' id (started_read l q) = record {
       begun = begun;
-      start = (q, l, contains_here (Began id q l) w.chronicle);
-      is = λ p n h.
-          let both = only p n h in
+      start = (q, l, v, contains_here (Began id q l v) w.chronicle);
+      is = λ p n u h.
+          let both = only p n u h in
           record {
             query = both.0;
             level = both.1;
@@ -156,7 +152,7 @@ read_case c w k ask s q l e at may =
             sees = λ j there. absurd (contains_nil j there);
           };
     } in
-    explains_telling c w k (Asks ask) s r (send_to id (Read q) ks) (Began id q l) e at (λ p x h. h) new
+    explains_telling c w k (Asks ask) s r (send_to id (Read q) ks) (Began id q l v) e at (λ p x h. h) new
     (record {
       of = old.of;
       writes = old.writes;
@@ -165,7 +161,7 @@ read_case c w k ask s q l e at may =
         | inr there ↦ old.reads i o there
       ];
     })
-    (λ x h. let made = contains_from_map (outbound id (Read q)) ks x h in subst (λ (y : Outbound). BodyOk w' k y) made.2 (record { begun = begun; is = λ p n there. (only p n there).0 }))
+    (λ x h. let made = contains_from_map (outbound id (Read q)) ks x h in subst (λ (y : Outbound). BodyOk w' k y) made.2 (record { begun = begun; is = λ p n u there. (only p n u there).0 }))
     begun tt
 
 begins_case : (c : Setting) (w : Scene) (k : ℕ) (ask : Ask) (p : Plan) (l : Level) (s s' : NodeState) (o : Effects) → Explains c w → slice_get w.nodes k ≡ Some s → MayTake w.past k s (Asks ask)
@@ -173,9 +169,11 @@ begins_case : (c : Setting) (w : Scene) (k : ℕ) (ask : Ask) (p : Plan) (l : Le
 begins_case c w k ask (plan.Write d) l s s' o e at may (is, same) =
     subst (λ (x : Effects). Explains c (next w k (Asks ask) s x s')) (sym is)
     (subst (λ (x : NodeState). Explains c (next w k (Asks ask) s (effects_of (start_write c (record { node = k; time = s.time }) d)) x)) (sym same) (write_case c w k ask s d l e at may))
-begins_case c w k ask (plan.Read q) l s s' o e at may (is, same) =
+begins_case c w k ask (plan.Read q v) l s s' o e at may (is, same) =
     subst (λ (x : Effects). Explains c (next w k (Asks ask) s x s')) (sym is)
-    (subst (λ (x : NodeState). Explains c (next w k (Asks ask) s (effects_of (start_read c (record { node = k; time = s.time }) l q)) x)) (sym same) (read_case c w k ask s q l e at may))
+    (subst (λ (x : NodeState). Explains c (next w k (Asks ask) s (effects_of (start_read c (record { node = k; time = s.time }) l q v)) x)) (sym same) (read_case c w k ask s q l v e at may))
+begins_case c w k ask (plan.Use keyspace) l s s' o e at may (is, same) = used_case c w k (Asks ask) (record { node = k; time = s.time }) keyspace s s' o e at is same
+begins_case c w k ask (plan.Invalid fault) l s s' o e at may h = absurd h
 
 pub asks_case : (c : Setting) (w : Scene) (k : ℕ) (ask : Ask) (r : Option Refusal) (s s' : NodeState) (o : Effects) → Explains c w → slice_get w.nodes k ≡ Some s → MayTake w.past k s (Asks ask)
     → BeginsOrRefuses c (record { node = k; time = s.time }) ask.plan ask.level r s o s' → Explains c (next w k (Asks ask) s o s')

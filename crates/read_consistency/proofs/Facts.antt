@@ -1,5 +1,5 @@
 -- What is known at each moment of a run: of each node, of each body that was ever made, and of each entry.
-use Rattle.std.proofs.Common.{◌≡◌, ◌≢◌, ℕ, ◌⊎◌, ◌≤◌, inl, inr, Option, Some, None, List, [], ◌∷◌, ◌++◌, refl, sym, ap, subst, ◌∙◌, Contains}
+use Rattle.std.proofs.Common.{◌≡◌, ℕ, ◌⊎◌, ◌≤◌, Some, List, Contains}
 use Rattle.std.specs.Prelude.{slice_get}
 use Rattle.cs_base.specs.declared.ids.ReqId.{ReqId}
 use Rattle.cs_base.specs.declared.level.Level.{Level}
@@ -9,13 +9,14 @@ use Rattle.changes.specs.declared.Held.{Held}
 use Rattle.changes.specs.declared.Change.{Change}
 use Rattle.changes.specs.declared.Mutation.{Mutation}
 use Rattle.changes.specs.declared.Query.{Query}
+use Rattle.statement_plan.specs.declared.plan.Columns.{Columns}
 use Rattle.changes.specs.Order.{Outranks, IsBeside}
 use Rattle.changes.specs.Contents.{IsReachedBy}
 use Rattle.changes.specs.Queries.{InQuery}
 use Rattle.peer_messages.specs.declared.message.Body.{Body}
 use Rattle.peer_messages.specs.declared.message.Body.TheVariants.{Write, WriteAck, Read, ReadReply}
 use Rattle.peer_messages.specs.declared.chronicle.Entry.{Entry}
-use Rattle.peer_messages.specs.declared.chronicle.Entry.TheVariants.{Asked, Submitted, Acked, Refused, Began, Rows, Time, Turned}
+use Rattle.peer_messages.specs.declared.chronicle.Entry.TheVariants.{Asked, Submitted, Acked, Refused, Used, Began, Rows, Time, Turned}
 use Rattle.peer_messages.specs.declared.outcome.Outbound.{Outbound}
 use Rattle.peer_messages.specs.declared.setting.Setting.{Setting}
 use Rattle.peer_messages.specs.Settings.{replicas_of, needed}
@@ -39,7 +40,7 @@ HasAll w j id = (s : NodeState) → slice_get w.nodes j ≡ Some s → (m : Muta
 
 -- whatever read began under this id asks this
 abbrev pub IsQueryOf : List Entry → ReqId → Query → Type 0
-IsQueryOf chronicle id q = (r : Query) (l : Level) → Contains chronicle (Began id r l) → r ≡ q
+IsQueryOf chronicle id q = (r : Query) (l : Level) (v : Columns) → Contains chronicle (Began id r l v) → r ≡ q
 
 -- the change is of a submitted mutation whose changes in its row are reached too
 pub record IsOf (chronicle : List Entry) (p : Partition) (Reached : Held → Type 0) (x : Held) : Type 0 where
@@ -66,7 +67,7 @@ pub record Answers (chronicle : List Entry) (q : Query) (content : List Held) : 
 
 -- a reply of node j answers whatever the read of this id asks
 abbrev pub ReplyOk : Scene → ℕ → ReqId → List Held → Type 0
-ReplyOk w j id content = (q : Query) (l : Level) → Contains w.chronicle (Began id q l) → Answers w.chronicle q content × Sees w.chronicle id j q content
+ReplyOk w j id content = (q : Query) (l : Level) (v : Columns) → Contains w.chronicle (Began id q l v) → Answers w.chronicle q content × Sees w.chronicle id j q content
 
 abbrev pub BodyIs : Scene → ℕ → ReqId → Body → Type 0
 BodyIs w from id (Write m) = submission_of w.chronicle id ≡ Some m
@@ -93,7 +94,7 @@ pub record ReadIs (w : Scene) (id : ReqId) (o : OpenRead) (q : Query) (l : Level
 pub record ReadOk (w : Scene) (id : ReqId) (o : OpenRead) : Type 0 where
   pub begun : WasBegun w.past id
   pub start : HasStart w.chronicle id
-  pub is : (q : Query) (l : Level) → Contains w.chronicle (Began id q l) → ReadIs w id o q l
+  pub is : (q : Query) (l : Level) (v : Columns) → Contains w.chronicle (Began id q l v) → ReadIs w id o q l
 
 pub record NodeOk (w : Scene) (s : NodeState) : Type 0 where
   pub of : (p : Partition) (x : Held) → Holds s.content p x → IsOf w.chronicle p (Reaches s.content p) x
@@ -109,7 +110,8 @@ pub record AckedOk (c : Setting) (w : Scene) (id : ReqId) (l : Level) (heard : L
 abbrev pub EntryOk : Setting → Scene → Entry → Type 0
 EntryOk c w (Acked id l heard) = AckedOk c w id l heard
 EntryOk c w (Submitted id m) = WasBegun w.past id
-EntryOk c w (Began id q l) = WasBegun w.past id
+EntryOk c w (Began id q l v) = WasBegun w.past id
+EntryOk c w (Used r keyspace) = Unit {0}
 EntryOk c w (Asked r) = Unit {0}
 EntryOk c w (Refused r refusal) = Unit {0}
 EntryOk c w (Rows r rows more grounds) = Unit {0}

@@ -1,38 +1,34 @@
 -- What is known stays known as a run goes on.
-use Rattle.std.proofs.Common.{◌≡◌, ◌≢◌, ℕ, ◌⊎◌, ◌≤◌, inl, inr, Bool, true, false, Option, Some, None, List, [], ◌∷◌, ◌++◌, refl, sym, ap, subst, ◌∙◌, Contains}
+use Rattle.std.proofs.Common.{◌≡◌, ℕ, ◌⊎◌, inl, inr, Bool, true, false, Option, Some, List, [], ◌∷◌, refl, sym, ap, subst, ◌∙◌, Contains}
 use Rattle.std.specs.Prelude.{slice_get, ◌==◌, ◌&&◌, if◌then◌else◌}
-use Rattle.std.proofs.lemmas.Bool.{eqb-true, eq-eqb, cases_Bool}
+use Rattle.std.proofs.lemmas.Bool.{eqb-true, eq-eqb}
 use Rattle.cs_base.specs.declared.ids.ReqId.{ReqId}
 use Rattle.cs_base.specs.declared.level.Level.{Level}
 use Rattle.cs_base.specs.Requests.{is_request}
 use Rattle.changes.specs.declared.Partition.{Partition}
 use Rattle.changes.specs.declared.Held.{Held}
-use Rattle.changes.specs.declared.Change.{Change}
 use Rattle.changes.specs.declared.Mutation.{Mutation}
 use Rattle.changes.specs.declared.Query.{Query}
-use Rattle.changes.specs.Order.{Outranks, IsBeside}
-use Rattle.changes.specs.Contents.{IsReachedBy}
-use Rattle.changes.specs.Queries.{InQuery}
-use Rattle.change_laws.proofs.Members.{contains_nil, contains_cases, contains_here, contains_there}
+use Rattle.statement_plan.specs.declared.plan.Columns.{Columns}
+use Rattle.change_laws.proofs.Members.{contains_cases, contains_here, contains_there}
 use Rattle.change_laws.proofs.OrderLaws.{request_made}
 use Rattle.peer_messages.specs.declared.message.Body.{Body}
 use Rattle.peer_messages.specs.declared.message.Body.TheVariants.{Write, WriteAck, Read, ReadReply}
 use Rattle.peer_messages.specs.declared.chronicle.Entry.{Entry}
-use Rattle.peer_messages.specs.declared.chronicle.Entry.TheVariants.{Asked, Submitted, Acked, Refused, Began, Rows, Time, Turned}
+use Rattle.peer_messages.specs.declared.chronicle.Entry.TheVariants.{Asked, Submitted, Acked, Refused, Used, Began, Rows, Time, Turned}
 use Rattle.peer_messages.specs.declared.outcome.Outbound.{Outbound}
 use Rattle.peer_messages.specs.declared.setting.Setting.{Setting}
-use Rattle.peer_messages.specs.Settings.{replicas_of, needed}
-use Rattle.node_steps.specs.State.{NodeState, OpenWrite, OpenRead, Holds}
+use Rattle.node_steps.specs.State.{NodeState, OpenWrite, OpenRead}
 use Rattle.node_steps.specs.Acts.{Deed}
-use Rattle.cluster_runs.specs.Chronicle.{submission_of, IsStart, StandsBefore}
+use Rattle.cluster_runs.specs.Chronicle.{submission_of, StandsBefore}
 use Rattle.cluster_runs.specs.Trace.{Scene}
-use Rattle.read_consistency.proofs.Facts.{WasBegun, Reaches, HasAll, IsQueryOf, IsOf, ReachedIn, Sees, Answers, ReplyOk, BodyIs, BodyOk, WriteOk, ReadIs, ReadOk, NodeOk, AckedOk, EntryOk, Explains}
+use Rattle.read_consistency.proofs.Facts.{WasBegun, Reaches, HasAll, IsQueryOf, IsOf, Sees, Answers, ReplyOk, BodyIs, BodyOk, WriteOk, ReadOk, NodeOk, AckedOk, EntryOk, Explains}
 
 pub record Grows (w w' : Scene) : Type 0 where
   pub past : (d : Deed) → Contains w.past d → Contains w'.past d
   pub chronicle : (e : Entry) → Contains w.chronicle e → Contains w'.chronicle e
   pub submissions : (id : ReqId) → WasBegun w.past id → submission_of w'.chronicle id ≡ submission_of w.chronicle id
-  pub begins : (id : ReqId) (q : Query) (l : Level) → WasBegun w.past id → Contains w'.chronicle (Began id q l) → Contains w.chronicle (Began id q l)
+  pub begins : (id : ReqId) (q : Query) (l : Level) (v : Columns) → WasBegun w.past id → Contains w'.chronicle (Began id q l v) → Contains w.chronicle (Began id q l v)
   pub starts : (id : ReqId) (e : Entry) → WasBegun w.past id → StandsBefore w'.chronicle id e → StandsBefore w.chronicle id e
   pub nodes : (j : ℕ) (s' : NodeState) → slice_get w'.nodes j ≡ Some s' → (s : NodeState) × (slice_get w.nodes j ≡ Some s) × ((p : Partition) (x : Held) → Reaches s.content p x → Reaches s'.content p x)
 
@@ -55,7 +51,7 @@ of_on w w' g p R R' x more h = record {
 }
 
 pub query_on : (w w' : Scene) → Grows w w' → (id : ReqId) (q : Query) → WasBegun w.past id → IsQueryOf w.chronicle id q → IsQueryOf w'.chronicle id q
-query_on w w' g id q begun h r l there = h r l (g.begins id r l begun there)
+query_on w w' g id q begun h r l v there = h r l v (g.begins id r l v begun there)
 
 pub stands_in : (es : List Entry) (id : ReqId) (e : Entry) → StandsBefore es id e → Contains es e
 stands_in [] id e h = absurd h
@@ -72,8 +68,8 @@ pub answers_on : (w w' : Scene) → Grows w w' → (q : Query) (content : List H
 answers_on w w' g q content h = record { of = λ x c. of_on w w' g q.partition _ _ x (λ y r. r) (h.of x c); inside = h.inside }
 
 pub reply_on : (c : Setting) (w w' : Scene) → Grows w w' → Explains c w → (j : ℕ) (id : ReqId) (content : List Held) → WasBegun w.past id → ReplyOk w j id content → ReplyOk w' j id content
-reply_on c w w' g e j id content begun h q l there =
-    let old = h q l (g.begins id q l begun there) in
+reply_on c w w' g e j id content begun h q l v there =
+    let old = h q l v (g.begins id q l v begun there) in
     (answers_on w w' g q content old.0, sees_on c w w' g e id j q content begun old.1)
 
 body_is_on : (c : Setting) (w w' : Scene) → Grows w w' → Explains c w → (j : ℕ) (id : ReqId) (b : Body) → WasBegun w.past id → BodyIs w j id b → BodyIs w' j id b
@@ -95,9 +91,9 @@ write_on w w' g id o h = record {
 pub read_on : (c : Setting) (w w' : Scene) → Grows w w' → Explains c w → (id : ReqId) (o : OpenRead) → ReadOk w id o → ReadOk w' id o
 read_on c w w' g e id o h = record {
   begun = begun_on w w' g id h.begun;
-  start = (h.start.0, h.start.1, g.chronicle _ h.start.2);
-  is = λ q l there.
-      let old = h.is q l (g.begins id q l h.begun there) in
+  start = (h.start.0, h.start.1, h.start.2, g.chronicle _ h.start.3);
+  is = λ q l v there.
+      let old = h.is q l v (g.begins id q l v h.begun there) in
       record {
         query = old.query;
         level = old.level;
@@ -124,7 +120,8 @@ acked_on c w w' g id l heard h = record {
 pub entry_on : (c : Setting) (w w' : Scene) → Grows w w' → (e : Entry) → EntryOk c w e → EntryOk c w' e
 entry_on c w w' g (Acked id l heard) h = acked_on c w w' g id l heard h
 entry_on c w w' g (Submitted id m) h = begun_on w w' g id h
-entry_on c w w' g (Began id q l) h = begun_on w w' g id h
+entry_on c w w' g (Began id q l v) h = begun_on w w' g id h
+entry_on c w w' g (Used r keyspace) h = tt
 entry_on c w w' g (Asked r) h = tt
 entry_on c w w' g (Refused r refusal) h = tt
 entry_on c w w' g (Rows r rows more grounds) h = tt
@@ -136,7 +133,8 @@ entry_on c w w' g (Turned k refusal) h = tt
 -- an entry that begins a request begins a new one
 abbrev pub IsNew : List Deed → Entry → Type 0
 IsNew past (Submitted id m) = WasBegun past id → ⊥
-IsNew past (Began id q l) = WasBegun past id → ⊥
+IsNew past (Began id q l v) = WasBegun past id → ⊥
+IsNew past (Used r keyspace) = Unit {0}
 IsNew past (Acked id l heard) = Unit {0}
 IsNew past (Asked r) = Unit {0}
 IsNew past (Refused r refusal) = Unit {0}
@@ -163,7 +161,8 @@ is_not false h = refl
 pub submission_kept : (past : List Deed) (e : Entry) (es : List Entry) (id : ReqId) → IsNew past e → WasBegun past id → submission_of (e ∷ es) id ≡ submission_of es id
 submission_kept past (Submitted r m) es id new begun =
     ap (λ (b : Bool). if b then Some m else submission_of es id) (is_not (is_request r id) (λ t. new (subst (λ (x : ReqId). WasBegun past x) (sym (same_request r id t)) begun)))
-submission_kept past (Began r q l) es id new begun = refl
+submission_kept past (Began r q l v) es id new begun = refl
+submission_kept past (Used r keyspace) es id new begun = refl
 submission_kept past (Acked r l heard) es id new begun = refl
 submission_kept past (Asked r) es id new begun = refl
 submission_kept past (Refused r refusal) es id new begun = refl
@@ -173,7 +172,8 @@ submission_kept past (Turned k refusal) es id new begun = refl
 
 pub start_kept : (past : List Deed) (x : Entry) (es : List Entry) (id : ReqId) (e : Entry) → IsNew past x → WasBegun past id → StandsBefore (x ∷ es) id e → StandsBefore es id e
 start_kept past x es id e new begun (inr h) = h
-start_kept past (Began r q l) es id e new begun (inl h) = absurd (new (subst (λ (v : ReqId). WasBegun past v) (sym h.0) begun))
+start_kept past (Began r q l v) es id e new begun (inl h) = absurd (new (subst (λ (x : ReqId). WasBegun past x) (sym h.0) begun))
+start_kept past (Used r keyspace) es id e new begun (inl h) = absurd h.0
 start_kept past (Submitted r m) es id e new begun (inl h) = absurd h.0
 start_kept past (Acked r l heard) es id e new begun (inl h) = absurd h.0
 start_kept past (Asked r) es id e new begun (inl h) = absurd h.0
@@ -182,8 +182,8 @@ start_kept past (Rows r rows more grounds) es id e new begun (inl h) = absurd h.
 start_kept past (Time k t) es id e new begun (inl h) = absurd h.0
 start_kept past (Turned k refusal) es id e new begun (inl h) = absurd h.0
 
-pub began_kept : (past : List Deed) (x : Entry) (es : List Entry) (id : ReqId) (q : Query) (l : Level) → IsNew past x → WasBegun past id → Contains (x ∷ es) (Began id q l) → Contains es (Began id q l)
-began_kept past x es id q l new begun h = elim (contains_cases x es (Began id q l) h) [
+pub began_kept : (past : List Deed) (x : Entry) (es : List Entry) (id : ReqId) (q : Query) (l : Level) (v : Columns) → IsNew past x → WasBegun past id → Contains (x ∷ es) (Began id q l v) → Contains es (Began id q l v)
+began_kept past x es id q l v new begun h = elim (contains_cases x es (Began id q l v) h) [
   | inl here ↦ absurd (subst (λ (e : Entry). IsNew past e) here new begun)
   | inr rest ↦ rest
 ]
@@ -199,7 +199,8 @@ submission_in (Submitted r n ∷ es) id m h = elim (submission_cases (is_request
   | inl (same, is) ↦ subst (λ (e : Entry). Contains (Submitted r n ∷ es) e) (ap (λ (x : ReqId). Submitted x n) same ∙ ap (λ (x : Mutation). Submitted id x) is) (contains_here (Submitted r n) es)
   | inr rest ↦ contains_there (Submitted r n) es _ (submission_in es id m rest)
 ]
-submission_in (Began r q l ∷ es) id m h = contains_there (Began r q l) es _ (submission_in es id m h)
+submission_in (Began r q l v ∷ es) id m h = contains_there (Began r q l v) es _ (submission_in es id m h)
+submission_in (Used r keyspace ∷ es) id m h = contains_there (Used r keyspace) es _ (submission_in es id m h)
 submission_in (Acked r l heard ∷ es) id m h = contains_there (Acked r l heard) es _ (submission_in es id m h)
 submission_in (Asked r ∷ es) id m h = contains_there (Asked r) es _ (submission_in es id m h)
 submission_in (Refused r refusal ∷ es) id m h = contains_there (Refused r refusal) es _ (submission_in es id m h)

@@ -1,12 +1,12 @@
 -- Each body that a node hears keeps what is known.
-use Rattle.std.proofs.Common.{◌≡◌, ◌≢◌, ℕ, ◌⊎◌, ◌<◌, ◌≤◌, inl, inr, Bool, true, false, cond, Option, Some, None, List, [], ◌∷◌, ◌++◌, refl, sym, ap, subst, ◌∙◌, arith, Contains, reverse, map}
-use Rattle.std.specs.Prelude.{slice_get, slice_set, ◌==◌, ◌&&◌, not, if◌then◌else◌, MatchBool, nat_lt}
-use Rattle.std.specs.Ordering.{is_eq, nat_cmp}
+use Rattle.std.proofs.Common.{◌≡◌, ℕ, ◌⊎◌, ◌≤◌, inl, inr, Bool, true, false, cond, Option, Some, None, List, [], ◌∷◌, ◌++◌, refl, sym, ap, subst, ◌∙◌, Contains}
+use Rattle.std.specs.Prelude.{slice_get, ◌&&◌, not, if◌then◌else◌, MatchBool, nat_lt}
+use Rattle.std.specs.Ordering.{is_eq}
 use Rattle.std.specs.declared.cmp.Ordering.{Ordering}
 use Rattle.std.specs.declared.cmp.Ordering.TheVariants.{Less, Equal, Greater}
-use Rattle.std.specs.Map.{lookup, set_value, remove_entry}
+use Rattle.std.specs.Map.{set_value, remove_entry}
 use Rattle.std.specs.BTreeMap.{is_at}
-use Rattle.std.proofs.lemmas.Bool.{cases_Bool, ltb-false, MatchBool-at_true, MatchBool-at_false}
+use Rattle.std.proofs.lemmas.Bool.{ltb-false}
 use Rattle.std.proofs.lemmas.Map.Views.{Contains-from_lookup}
 use Rattle.cs_base.specs.declared.ids.ReqId.{ReqId}
 use Rattle.cs_base.specs.declared.level.Level.{Level}
@@ -17,34 +17,31 @@ use Rattle.changes.specs.declared.Held.{Held}
 use Rattle.changes.specs.declared.Mutation.{Mutation}
 use Rattle.changes.specs.declared.Query.{Query}
 use Rattle.changes.specs.declared.ShownRow.{ShownRow}
-use Rattle.changes.specs.Contents.{IsReachedBy, IsMergeOf}
-use Rattle.changes.specs.Queries.{InQuery}
+use Rattle.changes.specs.Contents.{IsMergeOf}
 use Rattle.changes.specs.Shown.{IsShown}
-use Rattle.change_laws.proofs.Members.{contains_nil, contains_cases, contains_here, contains_there, contains_one, contains_push, contains_from_map}
-use Rattle.peer_messages.specs.declared.message.Body.{Body}
+use Rattle.change_laws.proofs.Members.{contains_cases, contains_here, contains_there, contains_push, contains_from_map}
 use Rattle.peer_messages.specs.declared.message.Body.TheVariants.{Write, WriteAck, Read, ReadReply}
 use Rattle.peer_messages.specs.declared.chronicle.Entry.{Entry}
-use Rattle.peer_messages.specs.declared.chronicle.Entry.TheVariants.{Asked, Submitted, Acked, Refused, Began, Rows, Time, Turned}
+use Rattle.peer_messages.specs.declared.chronicle.Entry.TheVariants.{Acked, Rows}
 use Rattle.peer_messages.specs.declared.outcome.Outbound.{Outbound}
 use Rattle.peer_messages.specs.declared.outcome.Move.{Move}
 use Rattle.peer_messages.specs.declared.setting.Setting.{Setting}
 use Rattle.peer_messages.specs.Settings.{replicas_of, needed, with_heard}
 use Rattle.peer_messages.specs.Moves.{quiet, tells}
-use Rattle.node_steps.specs.State.{NodeState, OpenWrite, OpenRead, Holds}
-use Rattle.node_steps.specs.Effects.{Effects, nothing, effects_of, outbound, send_to, open_at, after_move, Takes, AtRequest}
-use Rattle.node_steps.specs.Writes.{CountsAck, HearsAck}
-use Rattle.node_steps.specs.Reads.{is_stray, TellsRows, CountsReply, MergesReply, HearsReply}
-use Rattle.node_steps.specs.Replicas.{Asker, replies, TakesIn, IsAnswerTo}
-use Rattle.node_steps.specs.Acts.{Act, Hears, Incoming, Deed, HearsBody}
+use Rattle.node_steps.specs.State.{NodeState, OpenWrite, OpenRead}
+use Rattle.node_steps.specs.Effects.{Effects, nothing, effects_of, outbound, send_to, open_at, after_move, Takes}
+use Rattle.node_steps.specs.Writes.{HearsAck}
+use Rattle.node_steps.specs.Reads.{is_stray, TellsRows, MergesReply, HearsReply}
+use Rattle.node_steps.specs.Replicas.{replies}
+use Rattle.node_steps.specs.Acts.{Act, Incoming, HearsBody}
 use Rattle.cluster_runs.specs.Chronicle.{submission_of}
 use Rattle.cluster_runs.specs.Trace.{Scene, WasMade}
 use Rattle.cluster_runs.proofs.Lists.{get_set}
-use Rattle.read_consistency.specs.ReadRight.{IsRight, IsRightEntry}
-use Rattle.read_consistency.proofs.Facts.{WasBegun, Reaches, HasAll, IsQueryOf, IsOf, ReachedIn, Sees, Answers, ReplyOk, BodyIs, BodyOk, WriteOk, ReadIs, ReadOk, NodeOk, AckedOk, Explains}
-use Rattle.read_consistency.proofs.Grows.{Grows, begun_on, has_all_on, of_on, stands_in, write_on, read_on, node_on, submission_in}
+use Rattle.read_consistency.proofs.Facts.{WasBegun, Reaches, HasAll, IsQueryOf, Sees, Answers, ReplyOk, BodyIs, BodyOk, WriteOk, ReadOk, Explains}
+use Rattle.read_consistency.proofs.Grows.{begun_on, of_on, stands_in, write_on, read_on, node_on, submission_in}
 use Rattle.read_consistency.proofs.Reach.{grown, taken, source, slice_reached, merge_first, merge_second, merge_answers}
 use Rattle.read_consistency.proofs.Answer.{right_answer}
-use Rattle.read_consistency.proofs.Step.{deed_of, quietly, telling, quietly_grows, telling_grows, explains_quietly, explains_telling}
+use Rattle.read_consistency.proofs.Step.{quietly, telling, quietly_grows, telling_grows, explains_quietly, explains_telling}
 use Rattle.read_consistency.proofs.Cases.{next, some_one, request_exact, same_node, none_sent}
 
 -- what comes to a node is known
@@ -239,7 +236,7 @@ read_heard c w k from id q s s' o e at a begun query (part, answer, is, same) =
     slice_reached s.content q part answer y inside (subst (λ (p : Partition). Reaches s.content p y) in_part (acked.has k there s at m sub y in_m))
     in
     let reply : ReplyOk w' k id part =
-    λ p n there. (subst (λ (v : Query). Answers w'.chronicle v part) (sym (query p n there)) answers, subst (λ (v : Query). Sees w'.chronicle id k v part) (sym (query p n there)) sees) in
+    λ p n u there. (subst (λ (v : Query). Answers w'.chronicle v part) (sym (query p n u there)) answers, subst (λ (v : Query). Sees w'.chronicle id k v part) (sym (query p n u there)) sees) in
     subst (λ (x : Effects). Explains c (next w k a s x s')) (sym is)
     (subst (λ (x : NodeState). Explains c (next w k a s (replies (record { from = from; request = id }) (ReadReply part)) x)) (sym same)
     (explains_quietly c w k a s s sends e at (λ p x h. h) (node_on c w w' g e s node)
@@ -256,9 +253,9 @@ merged_ok c w from id content r next ok reply is merge =
     record {
       begun = ok.begun;
       start = ok.start;
-      is = λ q l there.
-          let old = ok.is q l there in
-          let new = reply q l there in
+      is = λ q l v there.
+          let old = ok.is q l v there in
+          let new = reply q l v there in
           record {
             query = old.query ∙ sym query;
             level = old.level ∙ sym level;
@@ -302,8 +299,8 @@ reply_answers c w k a id s n r' rows more e at ok enough shown =
     (record { of = old.of; writes = old.writes; reads = λ i o h. old.reads i o (in_left (is_at (request_cmp id)) s.reads (i, o) h) })
     (none_sent w' k) tt (
       ok.start,
-      λ q l there.
-          let is = ok.is q l there in
+      λ q l u there.
+          let is = ok.is q l u there in
           right_answer c w id q l n.heard n.merged rows more e is.answers is.sees
           (subst (λ (v : Level). needed c v q.partition ≤ heard_of (replicas_of c q.partition) n.heard) (sym is.level)
           (subst (λ (v : Query). needed c n.level v.partition ≤ heard_of (replicas_of c v.partition) n.heard) (sym is.query) enough))

@@ -1,8 +1,6 @@
 -- One move more: what was known is carried on, and what is new is known.
-use Rattle.std.proofs.Common.{◌≡◌, ◌≢◌, ℕ, ◌⊎◌, inl, inr, Option, Some, None, List, [], ◌∷◌, ◌++◌, refl, sym, ap, subst, ◌∙◌, Contains, reverse}
+use Rattle.std.proofs.Common.{◌≡◌, ℕ, inl, inr, Some, List, [], ◌∷◌, refl, sym, ap, subst, ◌∙◌, Contains}
 use Rattle.std.specs.Prelude.{slice_get, slice_set}
-use Rattle.std.proofs.lemmas.List.Elements.{Contains-append_cases, Contains-append_right}
-use Rattle.cs_base.specs.declared.ids.ReqId.{ReqId}
 use Rattle.changes.specs.declared.Partition.{Partition}
 use Rattle.changes.specs.declared.Held.{Held}
 use Rattle.peer_messages.specs.declared.chronicle.Entry.{Entry}
@@ -11,11 +9,10 @@ use Rattle.peer_messages.specs.declared.setting.Setting.{Setting}
 use Rattle.node_steps.specs.State.{NodeState}
 use Rattle.node_steps.specs.Effects.{Effects}
 use Rattle.node_steps.specs.Acts.{Act, Deed}
-use Rattle.cluster_runs.specs.Chronicle.{submission_of}
 use Rattle.cluster_runs.specs.Trace.{Scene}
 use Rattle.cluster_runs.proofs.Lists.{get_set}
-use Rattle.change_laws.proofs.Members.{contains_nil, contains_cases, contains_there}
-use Rattle.read_consistency.specs.ReadRight.{ReadRight, IsRightEntry}
+use Rattle.change_laws.proofs.Members.{contains_cases, contains_there}
+use Rattle.read_consistency.specs.ReadRight.{IsRightEntry}
 use Rattle.read_consistency.proofs.Facts.{Reaches, BodyOk, NodeOk, EntryOk, Explains}
 use Rattle.read_consistency.proofs.Grows.{Grows, body_on, node_on, entry_on, IsNew, submission_kept, start_kept, began_kept}
 
@@ -45,7 +42,7 @@ quietly_grows w k a s s' sends at more = record {
   past = λ d h. contains_there _ w.past d h;
   chronicle = λ e h. h;
   submissions = λ id b. refl;
-  begins = λ id q l b h. h;
+  begins = λ id q l v b h. h;
   starts = λ id e b h. h;
   nodes = nodes_grow w.nodes k s s' at more;
 }
@@ -55,7 +52,7 @@ telling_grows w k a s s' sends e at more new = record {
   past = λ d h. contains_there _ w.past d h;
   chronicle = λ x h. contains_there e w.chronicle x h;
   submissions = λ id b. submission_kept w.past e w.chronicle id new b;
-  begins = λ id q l b h. began_kept w.past e w.chronicle id q l new b h;
+  begins = λ id q l v b h. began_kept w.past e w.chronicle id q l v new b h;
   starts = λ id x b h. start_kept w.past e w.chronicle id x new b h;
   nodes = nodes_grow w.nodes k s s' at more;
 }
@@ -112,7 +109,7 @@ entry_grows w e new = record {
   past = λ d h. h;
   chronicle = λ x h. contains_there e w.chronicle x h;
   submissions = λ id b. submission_kept w.past e w.chronicle id new b;
-  begins = λ id q l b h. began_kept w.past e w.chronicle id q l new b h;
+  begins = λ id q l v b h. began_kept w.past e w.chronicle id q l v new b h;
   starts = λ id x b h. start_kept w.past e w.chronicle id x new b h;
   nodes = λ j s h. (s, h, λ p x r. r);
 }

@@ -1,9 +1,7 @@
 -- In each trace, so in each run, each answer is right.
-use Rattle.std.proofs.Common.{◌≡◌, ◌≢◌, ℕ, zero, suc, Option, Some, None, List, [], ◌∷◌, ◌++◌, refl, sym, ap, subst, ◌∙◌, Contains}
+use Rattle.std.proofs.Common.{◌≡◌, ℕ, zero, suc, Some, [], ◌∷◌, sym, subst}
 use Rattle.std.specs.Prelude.{slice_get, slice_set, replicate, length}
 use Rattle.cs_base.specs.declared.ids.ReqId.{ReqId}
-use Rattle.changes.specs.declared.Held.{Held}
-use Rattle.changes.specs.declared.Partition.{Partition}
 use Rattle.peer_messages.specs.declared.message.Body.{Body}
 use Rattle.peer_messages.specs.declared.message.Body.TheVariants.{Write, WriteAck, Read, ReadReply}
 use Rattle.peer_messages.specs.declared.chronicle.Entry.{Entry}
@@ -11,7 +9,7 @@ use Rattle.peer_messages.specs.declared.setting.Setting.{Setting}
 use Rattle.node_steps.specs.State.{NodeState, fresh_node}
 use Rattle.node_steps.specs.Effects.{Effects}
 use Rattle.node_steps.specs.Requests.{refusal_of}
-use Rattle.node_steps.specs.Acts.{Act, Rises, Hears, Asks, Incoming, Deed, Does, HearsBody}
+use Rattle.node_steps.specs.Acts.{Act, Rises, Hears, Asks, Deed, Does, HearsBody}
 use Rattle.cluster_runs.specs.World.{World}
 use Rattle.cluster_runs.specs.Run.{Run}
 use Rattle.cluster_runs.specs.Trace.{Scene, scene_of, MayTake, Move, Trace, IsFree}
@@ -24,7 +22,7 @@ use Rattle.read_consistency.specs.ReadRight.{ReadRight}
 use Rattle.read_consistency.proofs.Facts.{WasBegun, BodyIs, NodeOk, Explains}
 use Rattle.read_consistency.proofs.Step.{explains_entry}
 use Rattle.read_consistency.proofs.Cases.{next, rises_case, asks_case}
-use Rattle.read_consistency.proofs.Hearing.{Known, known, write_heard, ack_heard, read_heard, reply_heard}
+use Rattle.read_consistency.proofs.Hearing.{known, write_heard, ack_heard, read_heard, reply_heard}
 
 body_case : (c : Setting) (w : Scene) (k from : ℕ) (id : ReqId) (b : Body) (a : Act) (s s' : NodeState) (o : Effects) → Explains c w → slice_get w.nodes k ≡ Some s → WasBegun w.past id → BodyIs w from id b
     → HearsBody c (record { from = from; request = id }) b s o s' → Explains c (next w k a s o s')

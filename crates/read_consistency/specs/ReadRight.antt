@@ -1,7 +1,7 @@
 -- Each answered read shows a set of submitted changes that has every acknowledged change that its replicas must meet.
 -- After Cassandra's documentation, "Dynamo: Tunable Consistency": a read sees a write where the replicas that they wait for
 -- are together more than there are.
-use Rattle.std.specs.Prelude.{◌≡◌, ℕ, Bool, Option, Some, List, [], ◌∷◌, Contains, length}
+use Rattle.std.specs.Prelude.{◌≡◌, ℕ, Bool, Some, List, [], ◌∷◌, Contains, length}
 use Rattle.cs_base.specs.declared.level.Level.{Level}
 use Rattle.cs_base.specs.declared.ids.ReqId.{ReqId}
 use Rattle.cs_base.specs.Levels.{Meets}
@@ -9,13 +9,14 @@ use Rattle.changes.specs.declared.Partition.{Partition}
 use Rattle.changes.specs.declared.Held.{Held}
 use Rattle.changes.specs.declared.Mutation.{Mutation}
 use Rattle.changes.specs.declared.Query.{Query}
+use Rattle.statement_plan.specs.declared.plan.Columns.{Columns}
 use Rattle.changes.specs.declared.ShownRow.{ShownRow}
 use Rattle.changes.specs.Order.{IsBeside}
 use Rattle.changes.specs.Contents.{IsReachedBy}
 use Rattle.changes.specs.Queries.{InQuery}
 use Rattle.changes.specs.Shown.{IsShown}
 use Rattle.peer_messages.specs.declared.chronicle.Entry.{Entry}
-use Rattle.peer_messages.specs.declared.chronicle.Entry.TheVariants.{Asked, Submitted, Acked, Refused, Began, Rows, Time, Turned}
+use Rattle.peer_messages.specs.declared.chronicle.Entry.TheVariants.{Asked, Submitted, Acked, Refused, Used, Began, Rows, Time, Turned}
 use Rattle.peer_messages.specs.declared.setting.Setting.{Setting}
 use Rattle.peer_messages.specs.Settings.{replicas_of, needed}
 use Rattle.cluster_runs.specs.Chronicle.{submission_of, StandsBefore}
@@ -54,16 +55,18 @@ pub record IsRight (c : Setting) (earlier : List Entry) (read : ReqId) (q : Quer
 
 -- the read has its start in the chronicle
 abbrev pub HasStart : List Entry → ReqId → Type 0
-HasStart earlier read = (q : Query) × (level : Level) × Contains earlier (Began read q level)
+HasStart earlier read = (q : Query) × (level : Level) × (columns : Columns) × Contains earlier (Began read q level columns)
 
 abbrev pub IsRightEntry : Setting → List Entry → Entry → Type 0
 IsRightEntry c earlier (Rows read rows more grounds) =
-    HasStart earlier read × ((q : Query) (level : Level) → Contains earlier (Began read q level) → IsRight c earlier read q level grounds.merged rows more)
+    HasStart earlier read
+    × ((q : Query) (level : Level) (columns : Columns) → Contains earlier (Began read q level columns) → IsRight c earlier read q level grounds.merged rows more)
 IsRightEntry c earlier (Asked r) = Unit {0}
 IsRightEntry c earlier (Submitted r m) = Unit {0}
 IsRightEntry c earlier (Acked r l heard) = Unit {0}
 IsRightEntry c earlier (Refused r refusal) = Unit {0}
-IsRightEntry c earlier (Began r q l) = Unit {0}
+IsRightEntry c earlier (Used r keyspace) = Unit {0}
+IsRightEntry c earlier (Began r q l columns) = Unit {0}
 IsRightEntry c earlier (Time k t) = Unit {0}
 IsRightEntry c earlier (Turned k refusal) = Unit {0}
 

@@ -1,11 +1,10 @@
 -- A reply that the read can use, with the read that it leaves.
-use Rattle.std.proofs.Common.{◌≡◌, ◌⊎◌, inl, inr, ℕ, Bool, true, false, List, [], ◌∷◌, ◌++◌, Contains, refl, sym, ap, subst, ◌∙◌}
+use Rattle.std.proofs.Common.{◌≡◌, inl, inr, ℕ, Bool, true, false, List, [], ◌∷◌, ◌++◌, Contains, sym, ap, subst}
 use Rattle.std.specs.Prelude.{MatchBool, nat_lt}
 use Rattle.cs_base.specs.declared.ids.ReqId.{ReqId}
 use Rattle.cs_base.specs.Quorums.{heard_of}
 use Rattle.changes.specs.declared.Held.{Held}
-use Rattle.changes.specs.Order.{Outranks}
-use Rattle.changes.specs.Contents.{Either, IsReachedBy, IsContent, IsMergeOf}
+use Rattle.changes.specs.Contents.{Either, IsMergeOf}
 use Rattle.peer_messages.specs.declared.outcome.Move.{Move}
 use Rattle.peer_messages.specs.declared.setting.Setting.{Setting}
 use Rattle.peer_messages.specs.Settings.{replicas_of, needed}

@@ -17,6 +17,7 @@ use peer_messages::{
     Body, Entry, Grounds, Move, NodeIds, Outbound, Sends, Setting, copy_nodes, heard_of, is_in,
 };
 use row_select::shown;
+use statement_plan::Columns;
 use std::alloc::{AllocError, Global};
 use std::marker::Model;
 
@@ -81,12 +82,13 @@ pub fn opening(
     request: ReqId,
     level: Level,
     query: &Query,
+    columns: Columns,
 ) -> Result<Move, AllocError>
-    ensures { IfOk result (λ turn. turn ≡ start_read setting.now request level query.now) }
+    ensures { IfOk result (λ turn. turn ≡ start_read setting.now request level query.now columns) }
 {
     let replicas = setting.replicas(&query.partition);
     let mut entries = Items::new(alloc);
-    entries.push(Entry::Began(request, query.copy(alloc)?, level))?;
+    entries.push(Entry::Began(request, query.copy(alloc)?, level, columns))?;
     Ok(Move {
         sends: ask_all(alloc, request, query, replicas.as_slice())?,
         entries,

@@ -5,6 +5,7 @@ use cell_merge::Content;
 use changes::{Bound, Held, Partition, Place, Query};
 use cs_base::{Bytes, Items, Level, Micros, NodeId, ReqId};
 use peer_messages::{Body, Entry, Move, Setting, TableSetting};
+use statement_plan::Columns;
 use std::alloc::{AllocError, Global};
 use std::test::Fail;
 use token_ring::Ring;
@@ -94,12 +95,25 @@ fn shows(turn: &Move, first: &str, second: &str) -> bool {
 fn asks_every_replica(rt: HostRuntime) -> Result<(), Fail> {
     let alloc = rt.alloc();
     let setting = three_of_four(alloc)?;
-    let begun = opening(alloc, &setting, request(), Level::Two, &whole(alloc)?)?;
+    let query = whole(alloc)?;
+    let begun = opening(
+        alloc,
+        &setting,
+        request(),
+        Level::Two,
+        &query,
+        Columns::Count,
+    )?;
     assert_eq!(rt; begun.sends.as_slice().len(), 3);
     for sent in begun.sends.as_slice() {
         assert!(rt; matches!(sent.body, Body::Read(_)));
     }
-    assert!(rt; matches!(begun.entries.as_slice(), [Entry::Began(_, _, Level::Two)]));
+    assert!(rt;
+        matches!(
+            begun.entries.as_slice(),
+            [Entry::Began(_, _, Level::Two, Columns::Count)]
+        )
+    );
     Ok(())
 }
 

@@ -1,6 +1,6 @@
 use Rattle.std.proofs.Common.{◌≡◌, ◌++◌, map, drop, true}
 use Rattle.std.specs.List.{list_all}
-use Rattle.fault_script.specs.Script.{is_signed_number, is_long_word, signed_value}
+use Rattle.fault_script.specs.Lines.{is_signed_number, is_long_word, signed_value}
 use Rattle.fault_script.specs.Words.{texts_of}
 use Rattle.fault_script.proofs.head.tokens_of.Given as goal
 

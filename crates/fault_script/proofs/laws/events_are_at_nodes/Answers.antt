@@ -2,4 +2,4 @@ use Rattle.fault_script.proofs.ScriptHolds.{script_holds}
 use Rattle.fault_script.proofs.laws.events_are_at_nodes.Goals as goal
 
 pub returns : goal.returns
-returns c = λ text script is. (script_holds text script is).events
+returns c = λ text script is. (script_holds text script is).nodes

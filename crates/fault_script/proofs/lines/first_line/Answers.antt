@@ -1,7 +1,7 @@
 use Rattle.std.proofs.Common.{◌≡◌, ℕ, suc, ◌+◌, ◌-◌, List, ◌∷◌, ◌∙◌, ap, sym, length, get_or, take, drop, arith, length-drop, add-one}
 use Rattle.std.proofs.lemmas.Bool.{eqb-true, eq-eqb}
 use Rattle.std.proofs.lemmas.List.{take_all}
-use Rattle.fault_script.specs.Script.{lines_of}
+use Rattle.fault_script.specs.Lines.{lines_of}
 use Rattle.fault_script.proofs.FirstLine.{lines_at, lines_alone}
 use Rattle.fault_script.proofs.lines.first_line.Goals as goal
 

@@ -1,13 +1,14 @@
-use Rattle.std.proofs.Common.{◌≡◌, ◌+◌, ◌≤◌, length}
-use Rattle.fault_script.specs.declared.script.Stage.TheVariants as stage
-use Rattle.fault_script.specs.Script.{lines_of, script_from}
-use Rattle.fault_script.specs.Reading.{read_with}
+use Rattle.std.proofs.Common.{◌+◌, ◌≤◌, length, Result}
+use Rattle.fault_script.specs.declared.script.Script.{Script}
+use Rattle.fault_script.specs.declared.script.ScriptError.{ScriptError}
+use Rattle.fault_script.specs.Lines.{lines_of}
+use Rattle.fault_script.specs.Script.{Reads, first_reader}
 use Rattle.fault_script.proofs.reader.parse.Given as goal
 
--- what was read gives with the rest what the text gives
+-- what the rest gives the text gives
 abbrev pub invariant-loop-rest : goal.invariant-loop-rest
 invariant-loop-rest l = record {
-  gives : read_with l.reader (lines_of l.rest) ≡ script_from 1 stage.Version (lines_of l.text);
+  gives : (r : Result Script ScriptError) → Reads l.reader (lines_of l.rest) r → Reads first_reader (lines_of l.text) r;
   small : l.reader.number + length l.rest ≤ length l.text + 1;
 }
 

@@ -4,6 +4,6 @@ use Rattle.node_core.proofs.kept.Kept.take_ask.Goals as goal
 
 pub returns-in-Some-clause-ok : goal.returns-in-Some-clause-ok
 returns-in-Some-clause-ok c =
-    both_ok c.refused.result _ _ _
-    (λ given messages entries. refused_taken c.args.setting.now c.args.request c.args.ask.now c.in-Some.refusal c.args.self.now given (sym c.refusal.ensures ∙ c.in-Some.is) messages entries c.requires.before)
-    c.refused.ensures.messages c.refused.ensures.entries
+    both_ok c.tells.result _ _ _
+    (λ given messages entries. refused_taken c.args.setting.now c.args.request c.args.ask c.in-Some.refusal c.args.self.now given (sym c.refusal.ensures ∙ c.in-Some.is) messages entries c.requires.before)
+    c.tells.ensures.messages c.tells.ensures.entries

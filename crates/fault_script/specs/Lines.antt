@@ -1,0 +1,307 @@
+-- The lines of a fault script: those of the head, and then what happens to the nodes.
+use Rattle.std.specs.Prelude.{ℕ, ◌^◌, ◌-◌, Bool, true, false, not, ◌&&◌, ◌==◌, nat_lt, nat_le, if◌then◌else◌, Option, Some, None, Result, Ok, Err, List, [], ◌∷◌, length, filter, map, ℤ, pos, negsuc, codes, slice_index, take, drop}
+use Rattle.std.specs.List.{slice_split, list_all, list_any, position_or_len, before_first, after_first}
+use Rattle.std.specs.Option.{option_map}
+use Rattle.std.specs.Ordering.{int_eq}
+use Rattle.std.specs.Str.{bytes_eq}
+use Rattle.std.specs.Char.{is_ascii_digit}
+use Rattle.std.specs.Str.Lossy.{utf8_valid_len}
+use Rattle.std.specs.Str.Parse.{digits_value, signed_digits_value}
+use Rattle.cs_base.specs.declared.level.Level.{Level}
+use Rattle.cs_base.specs.declared.level.Level.TheVariants as level
+use Rattle.fault_script.specs.declared.script.ScriptEvent.{ScriptEvent}
+use Rattle.fault_script.specs.declared.script.ScriptEvent.TheVariants as event
+use Rattle.fault_script.specs.declared.script.MessagePlace.{MessagePlace}
+use Rattle.fault_script.specs.declared.script.Fault.{Fault}
+use Rattle.fault_script.specs.declared.script.Fault.TheVariants as fault
+use Rattle.fault_script.specs.declared.script.Settings.{Settings}
+use Rattle.fault_script.specs.declared.script.HeadStage.{HeadStage}
+use Rattle.fault_script.specs.declared.script.HeadStage.TheVariants as stage
+use Rattle.fault_script.specs.declared.script.HeadLine.{HeadLine}
+use Rattle.fault_script.specs.declared.script.HeadLine.TheVariants as head
+
+-- ---- lines and words
+
+-- Lines end with a line feed; the last may lack it
+abbrev pub onto_first : ℕ → List (List ℕ) → List (List ℕ)
+onto_first b [] = (b ∷ []) ∷ []
+onto_first b (line ∷ lines) = (b ∷ line) ∷ lines
+
+abbrev pub lines_of : List ℕ → List (List ℕ)
+lines_of [] = []
+lines_of (b ∷ bs) = if b == 10 then [] ∷ lines_of bs else onto_first b (lines_of bs)
+
+-- empty lines and comments are passed over
+abbrev pub is_skipped : List ℕ → Bool
+is_skipped [] = true
+is_skipped (b ∷ bs) = b == 35
+
+abbrev pub is_text : List ℕ → Bool
+is_text bytes = utf8_valid_len bytes == length bytes
+
+-- a line in UTF-8 that neither begins nor ends with a space
+abbrev pub is_well_formed : List ℕ → Bool
+is_well_formed line = is_text line && not (slice_index line 0 == 32) && not (slice_index line (length line - 1) == 32)
+
+-- its words, which one or more spaces separate
+abbrev pub words_of : List ℕ → Option (List (List ℕ))
+words_of line = if is_well_formed line then Some (filter (λ w. not (length w == 0)) (slice_split (λ b. b == 32) line)) else None
+
+-- ---- lines that end with a statement
+
+abbrev pub is_space : ℕ → Bool
+is_space b = b == 32
+
+-- the bytes without the spaces in front of them
+abbrev pub without_spaces : List ℕ → List ℕ
+without_spaces [] = []
+without_spaces (b ∷ bs) = if is_space b then without_spaces bs else b ∷ bs
+
+-- the word in front of the first space, and what stands behind the spaces that follow it
+abbrev pub first_word : List ℕ → Option (List ℕ × List ℕ)
+first_word text =
+    if nat_lt (position_or_len is_space text) (length text)
+    then Some (before_first is_space text, without_spaces (after_first is_space text))
+    else None
+
+-- what stands behind this beginning of a line and the spaces that follow it, where the line begins so and the rest is a text
+abbrev pub behind : List ℕ → List ℕ → Option (List ℕ)
+behind beginning line =
+    if bytes_eq (take (length beginning) line) beginning && is_text (drop (length beginning) line)
+    then Some (without_spaces (drop (length beginning) line))
+    else None
+
+-- ---- numbers, nodes and levels
+
+-- one or more decimal digits; in a token or a timestamp `-` may stand before them
+abbrev pub is_number : List ℕ → Bool
+is_number word = not (length word == 0) && list_all is_ascii_digit word
+
+abbrev pub number_value : List ℕ → ℕ
+number_value word = digits_value 10 word
+
+abbrev pub is_signed_number : List ℕ → Bool
+is_signed_number word = is_number (if slice_index word 0 == 45 then drop 1 word else word)
+
+abbrev pub signed_value : List ℕ → ℤ
+signed_value word = signed_digits_value 10 word
+
+-- the number, where it is one from `least` to `most`
+abbrev pub within : ℕ → ℕ → ℕ → Option ℕ
+within least most n = if nat_le least n && nat_le n most then Some n else None
+
+abbrev pub number_within : ℕ → ℕ → List ℕ → Option ℕ
+number_within least most word = within least most (number_value word)
+
+-- within 64 bits
+abbrev pub is_long : ℤ → Bool
+is_long (pos n) = nat_lt n (2 ^ 63)
+is_long (negsuc n) = nat_lt n (2 ^ 63)
+
+abbrev pub is_long_word : List ℕ → Bool
+is_long_word word = is_long (signed_value word)
+
+abbrev pub long_of : List ℕ → Option ℤ
+long_of word = if is_long_word word then Some (signed_value word) else None
+
+-- one of so many nodes
+abbrev pub node_of : ℕ → List ℕ → Option ℕ
+node_of nodes word = number_within 0 (nodes - 1) word
+
+abbrev pub level_of : List ℕ → Option Level
+level_of word =
+    if bytes_eq word (codes "ONE") then Some level.One
+    else (if bytes_eq word (codes "TWO") then Some level.Two
+    else (if bytes_eq word (codes "THREE") then Some level.Three
+    else (if bytes_eq word (codes "QUORUM") then Some level.Quorum
+    else (if bytes_eq word (codes "ALL") then Some level.All
+    else (if bytes_eq word (codes "LOCAL_QUORUM") then Some level.LocalQuorum
+    else (if bytes_eq word (codes "SERIAL") then Some level.Serial
+    else (if bytes_eq word (codes "LOCAL_SERIAL") then Some level.LocalSerial
+    else (if bytes_eq word (codes "LOCAL_ONE") then Some level.LocalOne
+    else None))))))))
+
+-- what words give that are understood, or refused by this fault: a value, where their numbers and their level are in range
+abbrev pub understood : {T : Type 0} → Fault → Bool → Option T → Result T Fault
+understood f false value = Err f
+understood f true None = Err fault.Number
+understood f true (Some value) = Ok value
+
+abbrev pub result_map : {T U : Type 0} → (T → U) → Result T Fault → Result U Fault
+result_map f (Ok value) = Ok (f value)
+result_map f (Err e) = Err e
+
+-- ---- the head
+
+abbrev pub version_line : List (List ℕ) → Result HeadStage Fault
+version_line (word ∷ version ∷ []) = understood fault.Head (bytes_eq word (codes "cassandra-script") && bytes_eq version (codes "1")) (Some stage.Ring)
+version_line words = Err fault.Head
+
+-- the tokens, where each is within 64 bits
+abbrev pub tokens_of : List (List ℕ) → Option (List ℤ)
+tokens_of words = if list_all is_long_word words then Some (map signed_value words) else None
+
+-- whether no token stands twice
+abbrev pub are_apart : List ℤ → Bool
+are_apart [] = true
+are_apart (token ∷ tokens) = not (list_any (int_eq token) tokens) && are_apart tokens
+
+-- one to seven signed numbers
+abbrev pub are_tokens : List (List ℕ) → Bool
+are_tokens words = nat_le 1 (length words) && nat_le (length words) 7 && list_all is_signed_number words
+
+abbrev pub ring_of : Result (List ℤ) Fault → Result HeadStage Fault
+ring_of (Ok tokens) = if are_apart tokens then Ok (stage.Factor tokens) else Err fault.Head
+ring_of (Err f) = Err f
+
+abbrev pub ring_line : List (List ℕ) → Result HeadStage Fault
+ring_line [] = Err fault.Head
+ring_line (word ∷ tokens) = ring_of (understood fault.Head (bytes_eq word (codes "ring") && are_tokens tokens) (tokens_of tokens))
+
+-- what holds without a line `grace` or `expiry`: ten days, and three hours
+abbrev pub first_settings : List ℤ → ℕ → Settings
+first_settings ring factor = record { ring = ring; factor = factor; grace = 864000; expiry = 10800 }
+
+abbrev pub with_factor : List ℤ → ℕ → HeadStage
+with_factor ring factor = stage.Grace (first_settings ring factor)
+
+abbrev pub factor_line : List ℤ → List (List ℕ) → Result HeadStage Fault
+factor_line ring (word ∷ factor ∷ []) = understood fault.Head (bytes_eq word (codes "rf") && is_number factor) (option_map (with_factor ring) (number_within 1 (length ring) factor))
+factor_line ring words = Err fault.Head
+
+-- whether the first word is this
+abbrev pub is_first : List ℕ → List (List ℕ) → Bool
+is_first first [] = false
+is_first first (word ∷ words) = bytes_eq word first
+
+abbrev pub with_grace : Settings → ℕ → HeadStage
+with_grace settings grace = stage.Expiry (record settings { grace = grace })
+
+abbrev pub grace_line : Settings → List (List ℕ) → Result HeadStage Fault
+grace_line settings (word ∷ seconds ∷ []) = understood fault.Head (is_number seconds) (option_map (with_grace settings) (number_within 0 100000000 seconds))
+grace_line settings words = Err fault.Head
+
+abbrev pub with_expiry : Settings → ℕ → HeadStage
+with_expiry settings expiry = stage.Schema (record settings { expiry = expiry })
+
+abbrev pub expiry_line : Settings → List (List ℕ) → Result HeadStage Fault
+expiry_line settings (word ∷ seconds ∷ []) = understood fault.Head (is_number seconds) (option_map (with_expiry settings) (number_within 1000 100000 seconds))
+expiry_line settings words = Err fault.Head
+
+abbrev pub run_line : Settings → List (List ℕ) → Result HeadLine Fault
+run_line settings (word ∷ []) = understood fault.Head (bytes_eq word (codes "run")) (Some (head.Run settings))
+run_line settings words = Err fault.Head
+
+-- behind `grace`
+abbrev pub later_line : Settings → List (List ℕ) → Result HeadLine Fault
+later_line settings words =
+    if is_first (codes "expiry") words then result_map head.Next (expiry_line settings words) else run_line settings words
+
+-- behind `rf`
+abbrev pub option_line : Settings → List (List ℕ) → Result HeadLine Fault
+option_line settings words =
+    if is_first (codes "grace") words then result_map head.Next (grace_line settings words) else later_line settings words
+
+-- what words say where they have to be this
+abbrev pub head_words : HeadStage → List (List ℕ) → Result HeadLine Fault
+head_words stage.Version words = result_map head.Next (version_line words)
+head_words stage.Ring words = result_map head.Next (ring_line words)
+head_words (stage.Factor ring) words = result_map head.Next (factor_line ring words)
+head_words (stage.Grace settings) words = option_line settings words
+head_words (stage.Expiry settings) words = later_line settings words
+head_words (stage.Schema settings) words = run_line settings words
+
+abbrev pub head_of_words : HeadStage → Option (List (List ℕ)) → Result HeadLine Fault
+head_of_words s None = Err fault.Head
+head_of_words s (Some words) = head_words s words
+
+-- a statement of the schema stands behind `rf`, `grace` and `expiry`
+abbrev pub statement_at : HeadStage → List ℕ → Result HeadLine Fault
+statement_at stage.Version text = Err fault.Head
+statement_at stage.Ring text = Err fault.Head
+statement_at (stage.Factor ring) text = Err fault.Head
+statement_at (stage.Grace settings) text = Ok (head.Schema settings text)
+statement_at (stage.Expiry settings) text = Ok (head.Schema settings text)
+statement_at (stage.Schema settings) text = Ok (head.Schema settings text)
+
+abbrev pub head_of : HeadStage → List ℕ → Option (List ℕ) → Result HeadLine Fault
+head_of s line (Some text) = statement_at s text
+head_of s line None = head_of_words s (words_of line)
+
+-- what a line of the head says where it has to be this
+abbrev pub head_line : HeadStage → List ℕ → Result HeadLine Fault
+head_line s line = head_of s line (behind (codes "schema ") line)
+
+-- ---- events, at so many nodes
+
+abbrev pub put_of : Option ℕ → Option Level → List ℕ → List ℕ → Option ℤ → List ℕ → Option ScriptEvent
+put_of (Some node) (Some level) key row (Some timestamp) value =
+    Some (event.Put (record { node = node; level = level; key = key; row = row; timestamp = timestamp; value = value }))
+put_of _ _ key row _ value = None
+
+abbrev pub put_line : ℕ → List (List ℕ) → Result ScriptEvent Fault
+put_line nodes (node ∷ level ∷ key ∷ row ∷ timestamp ∷ value ∷ []) =
+    understood fault.Line (is_number node && is_signed_number timestamp) (put_of (node_of nodes node) (level_of level) key row (long_of timestamp) value)
+put_line nodes words = Err fault.Line
+
+abbrev pub get_of : Option ℕ → Option Level → List ℕ → Option ScriptEvent
+get_of (Some node) (Some level) key = Some (event.Get (record { node = node; level = level; key = key }))
+get_of _ _ key = None
+
+abbrev pub get_line : ℕ → List (List ℕ) → Result ScriptEvent Fault
+get_line nodes (node ∷ level ∷ key ∷ []) = understood fault.Line (is_number node) (get_of (node_of nodes node) (level_of level) key)
+get_line nodes words = Err fault.Line
+
+abbrev pub place_of : Option ℕ → Option ℕ → Option ℕ → Option MessagePlace
+place_of (Some from) (Some upto) (Some number) = Some (record { from = from; upto = upto; number = number })
+place_of _ _ _ = None
+
+abbrev pub message_line : ℕ → List (List ℕ) → Result MessagePlace Fault
+message_line nodes (from ∷ upto ∷ number ∷ []) =
+    understood fault.Line (is_number from && is_number upto && is_number number) (place_of (node_of nodes from) (node_of nodes upto) (number_within 0 (2 ^ 64 - 1) number))
+message_line nodes words = Err fault.Line
+
+abbrev pub settle_line : List (List ℕ) → Result ScriptEvent Fault
+settle_line (count ∷ []) = understood fault.Line (is_number count) (option_map event.Settle (number_within 1 100000 count))
+settle_line words = Err fault.Line
+
+abbrev pub event_line : ℕ → List (List ℕ) → Result ScriptEvent Fault
+event_line nodes [] = Err fault.Line
+event_line nodes (word ∷ words) =
+    if bytes_eq word (codes "put") then put_line nodes words
+    else (if bytes_eq word (codes "get") then get_line nodes words
+    else (if bytes_eq word (codes "deliver") then result_map event.Deliver (message_line nodes words)
+    else (if bytes_eq word (codes "drop") then result_map event.Drop (message_line nodes words)
+    else (if bytes_eq word (codes "settle") then settle_line words
+    else Err fault.Line))))
+
+-- ---- events with a statement
+
+abbrev pub cql_of : Option ℕ → Option Level → List ℕ → Option ScriptEvent
+cql_of (Some node) (Some level) text = Some (event.Cql (record { node = node; level = level; text = text }))
+cql_of _ _ text = None
+
+-- what stands behind the node is the level and the statement
+abbrev pub cql_behind : ℕ → List ℕ → Option (List ℕ × List ℕ) → Result ScriptEvent Fault
+cql_behind nodes node None = Err fault.Line
+cql_behind nodes node (Some rest) = understood fault.Line (is_number node) (cql_of (node_of nodes node) (level_of rest.0) rest.1)
+
+abbrev pub cql_from : ℕ → Option (List ℕ × List ℕ) → Result ScriptEvent Fault
+cql_from nodes None = Err fault.Line
+cql_from nodes (Some rest) = cql_behind nodes rest.0 (first_word rest.1)
+
+-- `<node> <level> <statement>`
+abbrev pub cql_line : ℕ → List ℕ → Result ScriptEvent Fault
+cql_line nodes text = cql_from nodes (first_word text)
+
+abbrev pub event_of_words : ℕ → Option (List (List ℕ)) → Result ScriptEvent Fault
+event_of_words nodes None = Err fault.Line
+event_of_words nodes (Some words) = event_line nodes words
+
+abbrev pub event_of : ℕ → List ℕ → Option (List ℕ) → Result ScriptEvent Fault
+event_of nodes line (Some text) = cql_line nodes text
+event_of nodes line None = event_of_words nodes (words_of line)
+
+-- what a line behind `run` says
+abbrev pub event_at : ℕ → List ℕ → Result ScriptEvent Fault
+event_at nodes line = event_of nodes line (behind (codes "cql ") line)
