@@ -1,0 +1,11 @@
+pub mod Bytes
+pub mod EventBack
+pub mod EventFacts
+pub mod HeadBack
+pub mod HeadFacts
+pub mod Holding
+pub mod LineWords
+pub mod NumberWords
+pub mod Rows
+pub mod ScriptBack
+pub mod ScriptFacts
