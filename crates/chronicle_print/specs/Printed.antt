@@ -1,5 +1,5 @@
 -- A chronicle in print: a line for each answer, with the number of its request. The newest entry comes first.
-use Rattle.std.specs.Prelude.{◌≡◌, ℕ, ◌+◌, if◌then◌else◌, Option, Some, None, List, [], ◌∷◌, ◌++◌, length, codes, slice_get}
+use Rattle.std.specs.Prelude.{◌≡◌, ℕ, ◌+◌, Bool, true, false, if◌then◌else◌, Option, Some, None, List, [], ◌∷◌, ◌++◌, length, codes, slice_get}
 use Rattle.std.specs.Fmt.{decimal}
 use Rattle.cs_base.specs.declared.ids.ReqId.{ReqId}
 use Rattle.cs_base.specs.Requests.{is_request}
@@ -17,7 +17,7 @@ use Rattle.peer_messages.specs.declared.chronicle.Invalid.{Invalid}
 use Rattle.peer_messages.specs.declared.chronicle.Invalid.TheVariants.{SerialWrite, Level, UnknownTable, Statement}
 use Rattle.peer_messages.specs.declared.chronicle.Refusal.{Refusal}
 use Rattle.peer_messages.specs.declared.chronicle.Refusal.TheVariants as refusal
-use Rattle.peer_messages.specs.declared.chronicle.Refusal.TheVariants.{Unavailable, Overloaded}
+use Rattle.peer_messages.specs.declared.chronicle.Refusal.TheVariants.{Unavailable, WriteTimeout, ReadTimeout, Overloaded}
 use Rattle.peer_messages.specs.declared.chronicle.Entry.{Entry}
 use Rattle.peer_messages.specs.declared.chronicle.Entry.TheVariants.{Asked, Submitted, Acked, Refused, Used, Began, Rows, Time, Turned}
 
@@ -92,8 +92,17 @@ invalid_text Level = codes "Level"
 invalid_text UnknownTable = codes "UnknownTable"
 invalid_text (Statement fault) = name_of fault
 
+abbrev pub data_text : Bool → List ℕ
+data_text true = codes " data 1"
+data_text false = codes " data 0"
+
+abbrev pub timeout_text : List ℕ → ℕ → ℕ → List ℕ → List ℕ
+timeout_text name received blockfor last = name ++ codes " received " ++ decimal received ++ codes " blockfor " ++ decimal blockfor ++ last
+
 abbrev pub refusal_text : Refusal → List ℕ
 refusal_text (Unavailable required alive) = codes "unavailable required " ++ decimal required ++ codes " alive " ++ decimal alive
+refusal_text (WriteTimeout received blockfor) = timeout_text (codes "write-timeout") received blockfor (codes " SIMPLE")
+refusal_text (ReadTimeout received blockfor replied) = timeout_text (codes "read-timeout") received blockfor (data_text replied)
 refusal_text Overloaded = codes "overloaded"
 refusal_text (refusal.Invalid why) = codes "invalid " ++ invalid_text why
 

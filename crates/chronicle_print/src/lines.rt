@@ -2,7 +2,7 @@
 
 ghost use Rattle.std.specs.Prelude.{◌≡◌, ◌++◌, OnOk};
 ghost use Rattle.std.specs.Fmt.{decimal};
-ghost use Rattle.chronicle_print.specs.Printed.{acked_line, used_line, invalid_text, refusal_text, refused_line};
+ghost use Rattle.chronicle_print.specs.Printed.{acked_line, used_line, data_text, timeout_text, invalid_text, refusal_text, refused_line};
 
 use peer_messages::{Invalid, Refusal};
 use std::alloc::{AllocError, Global};
@@ -53,6 +53,64 @@ fn push_unavailable(
     Ok(())
 }
 
+/// A timeout, of a request that had so many answers and waited for so many.
+fn push_timeout(
+    alloc: Global,
+    out: &mut Vec<u8>,
+    name: &str,
+    received: u64,
+    blockfor: u64,
+    last: &str,
+) -> Result<(), AllocError>
+    ensures { OnOk result (out.new.items ≡ out.old.items ++ timeout_text name.now received blockfor last.now) }
+{
+    out.extend_from_slice(name.as_bytes())?;
+    out.extend_from_slice(b" received ")?;
+    push_number(alloc, out, received)?;
+    out.extend_from_slice(b" blockfor ")?;
+    push_number(alloc, out, blockfor)?;
+    out.extend_from_slice(last.as_bytes())
+}
+
+/// Whether a read that timed out had data of some replica.
+fn data_word(replied: bool) -> &'static str
+    ensures { result.now ≡ data_text replied }
+{
+    if replied { " data 1" } else { " data 0" }
+}
+
+fn push_write_timeout(
+    alloc: Global,
+    out: &mut Vec<u8>,
+    received: u8,
+    blockfor: u8,
+) -> Result<(), AllocError>
+    ensures { OnOk result (out.new.items ≡ out.old.items ++ refusal_text (Refusal.WriteTimeout received blockfor)) }
+{
+    let (received, blockfor) = (u64::from(received), u64::from(blockfor));
+    push_timeout(alloc, out, "write-timeout", received, blockfor, " SIMPLE")
+}
+
+fn push_read_timeout(
+    alloc: Global,
+    out: &mut Vec<u8>,
+    received: u8,
+    blockfor: u8,
+    replied: bool,
+) -> Result<(), AllocError>
+    ensures { OnOk result (out.new.items ≡ out.old.items ++ refusal_text (Refusal.ReadTimeout received blockfor replied)) }
+{
+    let (received, blockfor) = (u64::from(received), u64::from(blockfor));
+    push_timeout(
+        alloc,
+        out,
+        "read-timeout",
+        received,
+        blockfor,
+        data_word(replied),
+    )
+}
+
 fn invalid_name(why: Invalid) -> &'static str
     ensures { result.now ≡ invalid_text why }
 {
@@ -76,6 +134,14 @@ fn push_refusal(alloc: Global, out: &mut Vec<u8>, refusal: Refusal) -> Result<()
 {
     match refusal {
         Refusal::Unavailable { required, alive } => push_unavailable(alloc, out, required, alive),
+        Refusal::WriteTimeout { received, blockfor } => {
+            push_write_timeout(alloc, out, received, blockfor)
+        }
+        Refusal::ReadTimeout {
+            received,
+            blockfor,
+            data,
+        } => push_read_timeout(alloc, out, received, blockfor, data),
         Refusal::Overloaded => out.extend_from_slice(b"overloaded"),
         Refusal::Invalid(why) => push_invalid(out, why),
     }

@@ -142,7 +142,9 @@ impl Printer {
 /// memory.
 ///
 /// Each answer is a line: the number of its request, and `ok`, `rows N`, `keyspace NAME`,
-/// `unavailable required A alive B`, `overloaded`, or `invalid` and the reason's name. Behind `rows N` come N lines, one a
+/// `unavailable required A alive B`, `write-timeout received A blockfor B SIMPLE`,
+/// `read-timeout received A blockfor B data D` (1 where a replica replied, or else 0), `overloaded`, or `invalid` and the
+/// reason's name. Behind `rows N` come N lines, one a
 /// row: a space and the values that the read's statement shows, as CQL literals with ` | ` between them, or `null` for no
 /// value. A count is one row with one number.
 ///

@@ -125,11 +125,33 @@ fn add_count(alloc: Global, entries: &mut Vec<Entry>) -> Result<(), Fail> {
     Ok(())
 }
 
+fn add_timeouts(entries: &mut Vec<Entry>) -> Result<(), Fail> {
+    entries.push(Entry::Refused(
+        id(7),
+        Refusal::WriteTimeout {
+            received: 1,
+            blockfor: 3,
+        },
+    ))?;
+    for data in [true, false] {
+        entries.push(Entry::Refused(
+            id(9),
+            Refusal::ReadTimeout {
+                received: u8::from(data),
+                blockfor: 2,
+                data,
+            },
+        ))?;
+    }
+    Ok(())
+}
+
 /// An id that comes again, answers out of order, and one of a request that never came.
 fn add_late(alloc: Global, entries: &mut Vec<Entry>) -> Result<(), Fail> {
     entries.push(Entry::Asked(Some(id(7))))?;
     entries.push(acked(alloc, id(7)))?;
     entries.push(Entry::Refused(id(9), Refusal::Overloaded))?;
+    add_timeouts(entries)?;
     entries.push(acked(alloc, id(8)))?;
     Ok(())
 }
@@ -144,6 +166,9 @@ const PRINTED: &[u8] = b"1 ok
  1
 6 ok
 3 overloaded
+6 write-timeout received 1 blockfor 3 SIMPLE
+3 read-timeout received 1 blockfor 2 data 1
+3 read-timeout received 0 blockfor 2 data 0
 0 ok
 ";
 

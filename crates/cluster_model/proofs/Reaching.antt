@@ -1,14 +1,16 @@
 -- What a cluster takes leads from a reached state to a reached one.
-use Rattle.std.proofs.Common.{◌≡◌, ℕ, zero, suc, ◌+◌, ◌≤◌, Bool, true, false, Option, Some, None, List, [], ◌∷◌, ◌++◌, refl, sym, subst, arith, reverse, Contains}
+use Rattle.std.proofs.Common.{◌≡◌, ℕ, zero, suc, ◌+◌, ◌≤◌, Bool, true, false, Option, Some, None, List, [], ◌∷◌, ◌++◌, refl, sym, ap, subst, ◌∙◌, arith, reverse, Contains}
 use Rattle.std.specs.declared.alloc.AllocError.{AllocError}
-use Rattle.std.specs.Prelude.{Result, Ok, Err, OnOk, OnErr, MatchBool, nat_lt, slice_get}
+use Rattle.std.specs.Prelude.{Result, Ok, Err, OnOk, OnErr, MatchBool, nat_lt, map, replicate, length, slice_get, slice_set}
+use Rattle.std.proofs.lemmas.List.{map-set}
 use Rattle.peer_messages.specs.declared.message.Message.{Message}
 use Rattle.peer_messages.specs.declared.event.What.{What}
-use Rattle.peer_messages.specs.declared.event.What.TheVariants.{Client, Deliver, Tick}
+use Rattle.peer_messages.specs.declared.event.What.TheVariants.{Client, Deliver, Alive, Tick}
 use Rattle.peer_messages.specs.declared.chronicle.Refusal.TheVariants.{Overloaded}
 use Rattle.peer_messages.specs.declared.setting.Setting.{Setting}
-use Rattle.node_steps.specs.State.{NodeState}
-use Rattle.node_steps.specs.Steps.{time_after, end_of_time}
+use Rattle.node_steps.specs.State.{NodeState, fresh_node}
+use Rattle.node_steps.specs.Steps.{risen_time, end_of_time}
+use Rattle.node_core.specs.Views.{NodeView, view_of, fresh_view}
 use Rattle.cluster_runs.specs.Run.{WasSent}
 use Rattle.cluster_runs.specs.Run.Run.{begun, more, turned}
 use Rattle.cluster_runs.proofs.Lists.{some_one}
@@ -40,41 +42,56 @@ settles_idle (suc n) (suc m) v mid few (next, first, rest) none = (next, first, 
 
 -- ---- reached states
 
+fresh_views : (n : ℕ) → map view_of (replicate n fresh_node) ≡ replicate n fresh_view
+fresh_views zero = refl
+fresh_views (suc n) = ap (λ (vs : List NodeView). fresh_view ∷ vs) (fresh_views n)
+
 pub fresh_reached : (c : Setting) → IsReached (fresh_cluster c)
-fresh_reached c = ([], begun)
+fresh_reached c = (replicate (length c.ring) fresh_node, [], fresh_views (length c.ring), begun)
 
 pub same_reached : (v v' : ClusterState) → v' ≡ v → IsReached v → IsReached v'
 same_reached v v' same h = subst (λ (x : ClusterState). IsReached x) (sym same) h
 
 not_stepped_reached : (v : ClusterState) (k : ℕ) (what : What) → IsReached v → IsReached (not_stepped v k what)
-not_stepped_reached v k (Client ask) (past, run) = (past, turned (world_of v past) k Overloaded run)
+not_stepped_reached v k (Client ask) (nodes, past, shown, run) = (nodes, past, shown, turned (world_of v nodes past) k Overloaded run)
 not_stepped_reached v k (Deliver m) h = h
+not_stepped_reached v k (Alive peer up) h = h
 not_stepped_reached v k Tick h = h
 
-stepped_reached : (v v' : ClusterState) (k : ℕ) (s : NodeState) (what : What) → slice_get v.nodes k ≡ Some s → WasSent v.post.sent k what → IsReached v → StepsAt v k s what v' → IsReached v'
-stepped_reached v v' k s what at was (past, run) h =
+-- the state that a node's view is of
+get_viewed : (nodes : List NodeState) (k : ℕ) (s : NodeView) → slice_get (map view_of nodes) k ≡ Some s → (n : NodeState) × (slice_get nodes k ≡ Some n) × (view_of n ≡ s)
+get_viewed [] k s h = cc
+get_viewed (n ∷ ns) zero s h = (n, refl, some_one h)
+get_viewed (n ∷ ns) (suc k) s h = get_viewed ns k s h
+
+stepped_reached : (v v' : ClusterState) (k : ℕ) (s : NodeView) (what : What) → slice_get v.nodes k ≡ Some s → WasSent v.post.sent k what → IsReached v → StepsAt v k s what v' → IsReached v'
+stepped_reached v v' k s what at was (nodes, past, shown, run) h =
+    let node = get_viewed nodes k s (subst (λ (xs : List NodeView). slice_get xs k ≡ Some s) (sym shown) at) in
+    let step = h.from node.0 node.2 in
     same_reached (stepped v k h.outputs h.after) v' h.state (
-      reverse h.deeds ++ past,
-      more (world_of v past) (world_of (stepped v k h.outputs h.after) (reverse h.deeds ++ past)) k (event_of what) run (record {
-        before = s;
-        deeds = h.deeds;
+      slice_set nodes k step.after,
+      reverse step.deeds ++ past,
+      map-set view_of nodes k step.after ∙ ap (λ (xs : List NodeView). slice_set xs k (view_of step.after)) shown ∙ ap (λ (x : NodeView). slice_set v.nodes k x) step.shows,
+      more (world_of v nodes past) (world_of (stepped v k h.outputs h.after) (slice_set nodes k step.after) (reverse step.deeds ++ past)) k (event_of what) run (record {
+        before = node.0;
+        deeds = step.deeds;
         outputs = h.outputs;
-        after = h.after;
-        at = at;
+        after = step.after;
+        at = node.1;
         was_sent = was;
-        step = h.step;
+        step = step.step;
         world = refl;
       }),
     )
 
-taken_reached : (b : Bool) (v v' : ClusterState) (k : ℕ) (s : NodeState) (what : What) → slice_get v.nodes k ≡ Some s → WasSent v.post.sent k what → IsReached v
+taken_reached : (b : Bool) (v v' : ClusterState) (k : ℕ) (s : NodeView) (what : What) → slice_get v.nodes k ≡ Some s → WasSent v.post.sent k what → IsReached v
     → MatchBool b (v' ≡ not_stepped v k what) (StepsAt v k s what v') → IsReached v'
 taken_reached true v v' k s what at was r h = same_reached (not_stepped v k what) v' h (not_stepped_reached v k what r)
 taken_reached false v v' k s what at was r h = stepped_reached v v' k s what at was r h
 
-at_reached : (v v' : ClusterState) (k : ℕ) (what : What) (o : Option NodeState) → slice_get v.nodes k ≡ o → WasSent v.post.sent k what → IsReached v → ComesAt v k what o v' → IsReached v'
+at_reached : (v v' : ClusterState) (k : ℕ) (what : What) (o : Option NodeView) → slice_get v.nodes k ≡ o → WasSent v.post.sent k what → IsReached v → ComesAt v k what o v' → IsReached v'
 at_reached v v' k what None at was r h = same_reached v v' h r
-at_reached v v' k what (Some s) at was r h = taken_reached (nat_lt end_of_time (time_after s (event_of what))) v v' k s what at was r h
+at_reached v v' k what (Some s) at was r h = taken_reached (nat_lt end_of_time (risen_time s.time (event_of what))) v v' k s what at was r h
 
 comes_reached : (v v' : ClusterState) (k : ℕ) (what : What) → WasSent v.post.sent k what → IsReached v → Comes v k what v' → IsReached v'
 comes_reached v v' k what was r h = at_reached v v' k what (slice_get v.nodes k) refl was r h
@@ -113,7 +130,7 @@ stands_reached v v' (event.Lose from upto k) r h = same_reached v v' h r
 stands_reached v v' (event.Settle n) r (m, few, h) = settles_reached m v v' r h
 
 pub reached_right : (v : ClusterState) → IsReached v → ReadRight v.setting v.chronicle
-reached_right v (past, run) = run_right v.setting (world_of v past) run
+reached_right v (nodes, past, shown, run) = run_right v.setting (world_of v nodes past) run
 
 pub either_reached : (r : Result (Unit {0}) AllocError) (v v' : ClusterState) (e : ClusterEvent) → IsReached v → OnOk r (Takes v e v') → OnErr r (Stands v e v') → IsReached v'
 either_reached (Ok x) v v' e r takes stands = takes_reached v v' e r takes

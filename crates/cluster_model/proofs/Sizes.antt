@@ -9,19 +9,19 @@ use Rattle.changes.specs.declared.Held.{Held}
 use Rattle.changes.specs.declared.Partition.{Partition}
 use Rattle.changes.specs.Drafts.{mutation_of}
 use Rattle.cs_base.specs.declared.level.Level.{Level}
-use Rattle.cs_base.specs.Quorums.{heard_of}
+use Rattle.cs_base.specs.Quorums.{is_in, heard_of}
 use Rattle.cs_base.specs.declared.ids.ReqId.{ReqId}
 use Rattle.cs_base.specs.Ring.{is_replica_at}
 use Rattle.peer_messages.specs.declared.message.Body.{Body}
 use Rattle.peer_messages.specs.declared.message.Body.TheVariants.{Write, WriteAck, Read, ReadReply}
 use Rattle.peer_messages.specs.declared.event.Event.{Event}
 use Rattle.peer_messages.specs.declared.event.What.{What}
-use Rattle.peer_messages.specs.declared.event.What.TheVariants.{Client, Deliver, Tick}
+use Rattle.peer_messages.specs.declared.event.What.TheVariants.{Client, Deliver, Alive, Tick}
 use Rattle.peer_messages.specs.declared.event.Plan.{Plan}
 use Rattle.peer_messages.specs.declared.event.Plan.TheVariants as plan
 use Rattle.peer_messages.specs.declared.chronicle.Entry.{Entry}
 use Rattle.peer_messages.specs.declared.chronicle.Entry.TheVariants.{Acked, Rows}
-use Rattle.peer_messages.specs.Settings.{replicas_of, factor_of, needed}
+use Rattle.peer_messages.specs.Settings.{replicas_of, alive_at, factor_of, needed}
 use Rattle.peer_messages.specs.declared.chronicle.Refusal.{Refusal}
 use Rattle.peer_messages.specs.declared.outcome.Outbound.{Outbound}
 use Rattle.peer_messages.specs.declared.outcome.Outputs.{Outputs}
@@ -34,9 +34,9 @@ use Rattle.node_steps.specs.Writes.{HearsAck}
 use Rattle.node_steps.specs.Reads.{HearsReply, TellsRows, MergesReply, is_stray}
 use Rattle.node_steps.specs.Replicas.{Asker}
 use Rattle.node_steps.specs.Requests.{Begins, BeginsOrRefuses, refusal_of}
-use Rattle.node_steps.specs.Acts.{Act, Rises, Hears, Asks, Does, Deed, Chain, HearsBody, own_sends, request_at}
+use Rattle.node_steps.specs.Acts.{Act, Rises, Hears, Asks, Marks, Does, Deed, Chain, HearsBody, own_sends, request_at}
 use Rattle.node_steps.specs.Acts.Chain.{begun, own, matter}
-use Rattle.node_steps.specs.Steps.{NodeStep, message_of, message_fits, sends_of, entries_of, matter_of, time_after}
+use Rattle.node_steps.specs.Steps.{NodeStep, message_of, message_fits, mark_fits, sends_of, entries_of, matter_of, time_after}
 
 -- what a body may still give where it is heard: messages and entries
 abbrev cost : Body → ℕ
@@ -49,6 +49,7 @@ abbrev cost_of : Act → ℕ
 cost_of (Rises t) = 0
 cost_of (Hears m) = cost m.body
 cost_of (Asks ask) = 22
+cost_of (Marks peer up) = 0
 
 abbrev costs : List Act → ℕ
 costs [] = 0
@@ -107,7 +108,7 @@ effects_small : (o : Effects) (turn : Move) → o ≡ effects_of turn → IsSmal
 effects_small o turn is small = subst (λ (e : Effects). weight e ≤ 1) (sym is) small
 
 body_costs : (c : Setting) (a : Asker) (b : Body) (s : NodeState) (o : Effects) (s' : NodeState) → HearsBody c a b s o s' → weight o ≤ cost b
-body_costs c a (Write m) s o s' h = subst (λ (e : Effects). weight e ≤ 2) (sym h.1) (omega arith)
+body_costs c a (Write m) s o s' h = subst (λ (e : Effects). weight e ≤ 2) (sym h.2) (omega arith)
 body_costs c a WriteAck s o s' (turn, at, is, rest) =
     effects_small o turn is (takes_small (HearsAck c a.request a.from) a.request s.writes (open_at s.writes a.request) turn s'.writes (λ w w' h. ack_small c a.request a.from w turn w' h) at)
 body_costs c a (Read q) s o s' (part, answer, is, rest) = subst (λ (e : Effects). weight e ≤ 2) (sym is) (omega arith)
@@ -124,12 +125,18 @@ replicas_few c p few =
     let b : length nodes ≡ length c.ring = length-range_with_len 0 (length c.ring) in
     omega (arith, a, b, few)
 
+alive_few : (c : Setting) (down : List ℕ) (p : Partition) → length c.ring ≤ 7 → length (alive_at c down p) ≤ 7
+alive_few c down p few =
+    let a = filter_few (λ k. not (is_in down k)) (replicas_of c p) in
+    let b = replicas_few c p few in
+    omega (arith, a, b)
+
 begins_costs : (c : Setting) (request : ReqId) (plan : Plan) (l : Level) (s : NodeState) (o : Effects) (s' : NodeState) → length c.ring ≤ 7 → Begins c request plan l s o s' → weight o ≤ 22
 begins_costs c request (plan.Write draft) l s o s' few h =
-    let sent = weight_sent request (Write (mutation_of request draft)) 7 (replicas_of c draft.partition) (omega arith) (replicas_few c draft.partition few) in
+    let sent = weight_sent request (Write (mutation_of request draft)) 7 (alive_at c s.down draft.partition) (omega arith) (alive_few c s.down draft.partition few) in
     subst (λ (e : Effects). weight e ≤ 22) (sym h.0) (omega (arith, sent))
 begins_costs c request (plan.Read q columns) l s o s' few h =
-    let sent = weight_sent request (Read q) 7 (replicas_of c q.partition) (omega arith) (replicas_few c q.partition few) in
+    let sent = weight_sent request (Read q) 7 (alive_at c s.down q.partition) (omega arith) (alive_few c s.down q.partition few) in
     subst (λ (e : Effects). weight e ≤ 22) (sym h.0) (omega (arith, sent))
 begins_costs c request (plan.Use keyspace) l s o s' few h = subst (λ (e : Effects). weight e ≤ 22) (sym h.0) (omega arith)
 begins_costs c request (plan.Invalid fault) l s o s' few h = absurd h
@@ -141,7 +148,8 @@ asked_costs c request plan l (Some refusal) s o s' few h = subst (λ (e : Effect
 does_costs : (c : Setting) (me : ℕ) (s : NodeState) (a : Act) (o : Effects) (s' : NodeState) → length c.ring ≤ 7 → Does c me s a o s' → weight o ≤ cost_of a
 does_costs c me s (Rises t) o s' few h = subst (λ (e : Effects). weight e ≤ 0) (sym h.1) (omega arith)
 does_costs c me s (Hears m) o s' few h = body_costs c (record { from = m.from; request = m.request }) m.body s o s' h
-does_costs c me s (Asks ask) o s' few h = asked_costs c (request_at me s.time) ask.plan ask.level (refusal_of c ask.plan ask.level) s o s' few h
+does_costs c me s (Asks ask) o s' few h = asked_costs c (request_at me s.time) ask.plan ask.level (refusal_of c s.down ask.plan ask.level) s o s' few h
+does_costs c me s (Marks peer up) o s' few h = subst (λ (e : Effects). weight e ≤ 0) (sym h.0) (omega arith)
 
 -- ---- what a step gives
 
@@ -195,9 +203,14 @@ body_small WriteAck = omega arith
 body_small (Read q) = omega arith
 body_small (ReadReply content) = omega arith
 
+mark_costs : (b : Bool) (peer : ℕ) (up : Bool) → costs (if b then Marks peer up ∷ [] else []) ≤ 22
+mark_costs true peer up = omega arith
+mark_costs false peer up = omega arith
+
 matter_costs : (c : Setting) (me : ℕ) (what : What) → costs (matter_of c me what) ≤ 22
 matter_costs c me (Client ask) = omega arith
 matter_costs c me (Deliver m) = heard_costs (message_fits c me m) (Hears (record { from = m.from; request = m.request; body = m.body })) (body_small m.body)
+matter_costs c me (Alive peer up) = mark_costs (mark_fits c me peer) peer up
 matter_costs c me Tick = omega arith
 
 sends_few : (ds : List Deed) → length (flat_map sends_of ds) ≤ sizes ds

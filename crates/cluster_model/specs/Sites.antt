@@ -2,12 +2,12 @@
 use Rattle.std.specs.Prelude.{◌≡◌, ◌<◌, ◌≤◌, ◌+◌, ℕ, Bool, true, false, Some, None, List, ◌∷◌, ◌++◌, map, length, reverse, slice_get, slice_set, vec_len, vec_capacity}
 use Rattle.peer_messages.specs.declared.event.Event.{Event}
 use Rattle.peer_messages.specs.declared.event.What.{What}
-use Rattle.peer_messages.specs.declared.event.What.TheVariants.{Client, Deliver, Tick}
+use Rattle.peer_messages.specs.declared.event.What.TheVariants.{Client, Deliver, Alive, Tick}
 use Rattle.peer_messages.specs.declared.chronicle.Entry.TheVariants.{Asked, Turned}
 use Rattle.peer_messages.specs.declared.chronicle.Refusal.TheVariants.{Overloaded}
 use Rattle.peer_messages.specs.declared.setting.Setting.{Setting}
-use Rattle.node_steps.specs.State.{NodeState}
-use Rattle.node_steps.specs.Steps.{time_after, end_of_time}
+use Rattle.node_steps.specs.Steps.{risen_time, end_of_time}
+use Rattle.node_core.specs.Views.{NodeView}
 use Rattle.node_core.specs.Sites.{Site, Steps}
 use Rattle.cluster_runs.specs.Run.{opening}
 use Rattle.cluster_model.specs.State.{ClusterState, IsReached, with_sent}
@@ -16,10 +16,10 @@ use Rattle.cluster_model.specs.declared.parts.Turn.{Turn}
 use Rattle.cluster_model.specs.declared.parts.Turn.TheVariants.{Stepped, NoRoom, NoNode}
 use Rattle.cluster_model.specs.declared.parts.Parts.{Parts}
 
-abbrev pub site_state : Site → NodeState
+abbrev pub site_state : Site → NodeView
 site_state s = s.state
 
-abbrev pub states_of : List Site → List NodeState
+abbrev pub states_of : List Site → List NodeView
 states_of sites = map site_state sites
 
 -- each node has this setting and its number
@@ -28,9 +28,9 @@ AreSites c sites = (k : ℕ) (s : Site) → slice_get sites k ≡ Some s → (s.
 
 abbrev pub Turns : List Site → ℕ → Event → Turn → List Site → Type 0
 Turns sites k e NoNode sites' = (slice_get sites k ≡ None) × (sites' ≡ sites)
-Turns sites k e NoRoom sites' = (s : Site) × (slice_get sites k ≡ Some s) × (end_of_time < time_after s.state e) × (sites' ≡ sites)
+Turns sites k e NoRoom sites' = (s : Site) × (slice_get sites k ≡ Some s) × (end_of_time < risen_time s.state.time e) × (sites' ≡ sites)
 Turns sites k e (Stepped o) sites' =
-    (s s' : Site) × (slice_get sites k ≡ Some s) × (time_after s.state e ≤ end_of_time) × Steps s e o s' × (sites' ≡ slice_set sites k s')
+    (s s' : Site) × (slice_get sites k ≡ Some s) × (risen_time s.state.time e ≤ end_of_time) × Steps s e o s' × (sites' ≡ slice_set sites k s')
 
 -- what an event's turn enters, beside the node's own state
 abbrev pub entered : ClusterState → Bool → ℕ → Turn → ClusterState
@@ -42,6 +42,7 @@ entered v asks k NoNode = v
 abbrev pub asks : What → Bool
 asks (Client ask) = true
 asks (Deliver m) = false
+asks (Alive peer up) = false
 asks Tick = false
 
 -- a step gives at most 24 messages and 30 entries

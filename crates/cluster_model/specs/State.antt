@@ -1,10 +1,11 @@
 -- A cluster as its contracts see it.
-use Rattle.std.specs.Prelude.{◌==◌, ◌&&◌, ◌+◌, ◌++◌, ℕ, zero, suc, Bool, true, false, if◌then◌else◌, Option, Some, None, List, [], ◌∷◌, length, replicate, slice_get, slice_set}
+use Rattle.std.specs.Prelude.{◌≡◌, ◌==◌, ◌&&◌, ◌+◌, ◌++◌, ℕ, zero, suc, Bool, true, false, if◌then◌else◌, Option, Some, None, List, [], ◌∷◌, length, replicate, map, slice_get, slice_set}
 use Rattle.peer_messages.specs.declared.message.Message.{Message}
 use Rattle.peer_messages.specs.declared.chronicle.Entry.{Entry}
 use Rattle.peer_messages.specs.declared.setting.Setting.{Setting}
-use Rattle.node_steps.specs.State.{NodeState, fresh_node}
+use Rattle.node_steps.specs.State.{NodeState}
 use Rattle.node_steps.specs.Acts.{Deed}
+use Rattle.node_core.specs.Views.{NodeView, view_of, fresh_view}
 use Rattle.cluster_runs.specs.World.{World}
 use Rattle.cluster_runs.specs.Run.{Run}
 
@@ -16,19 +17,19 @@ pub record Post : Type 0 where
 -- the nodes by number, and the chronicle, newest first
 pub record ClusterState : Type 0 where
   pub setting : Setting
-  pub nodes : List NodeState
+  pub nodes : List NodeView
   pub post : Post
   pub chronicle : List Entry
 
 abbrev pub fresh_cluster : Setting → ClusterState
-fresh_cluster c = record { setting = c; nodes = replicate (length c.ring) fresh_node; post = record { sent = []; passed = [] }; chronicle = [] }
+fresh_cluster c = record { setting = c; nodes = replicate (length c.ring) fresh_view; post = record { sent = []; passed = [] }; chronicle = [] }
 
-abbrev pub world_of : ClusterState → List Deed → World
-world_of v past = record { nodes = v.nodes; sent = v.post.sent; chronicle = v.chronicle; past = past }
+abbrev pub world_of : ClusterState → List NodeState → List Deed → World
+world_of v nodes past = record { nodes = nodes; sent = v.post.sent; chronicle = v.chronicle; past = past }
 
--- some run comes to this state
+-- some run comes to a world that shows this
 abbrev pub IsReached : ClusterState → Type 0
-IsReached v = (past : List Deed) × Run v.setting (world_of v past)
+IsReached v = (nodes : List NodeState) × (past : List Deed) × (map view_of nodes ≡ v.nodes) × Run v.setting (world_of v nodes past)
 
 -- ---- messages by place
 

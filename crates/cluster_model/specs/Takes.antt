@@ -1,15 +1,16 @@
 -- What an event does to a cluster.
-use Rattle.std.specs.Prelude.{◌≡◌, ◌<◌, nat_lt, ◌++◌, ℕ, zero, suc, MatchBool, Option, Some, None, List, ◌∷◌, reverse, slice_get, slice_set}
+use Rattle.std.specs.Prelude.{◌≡◌, ◌<◌, nat_lt, ◌++◌, ℕ, zero, suc, MatchBool, Option, Some, None, ◌∷◌, reverse, slice_get, slice_set}
 use Rattle.peer_messages.specs.declared.message.Message.{Message}
 use Rattle.peer_messages.specs.declared.event.Event.{Event}
 use Rattle.peer_messages.specs.declared.event.What.{What}
-use Rattle.peer_messages.specs.declared.event.What.TheVariants.{Client, Deliver, Tick}
+use Rattle.peer_messages.specs.declared.event.What.TheVariants.{Client, Deliver, Alive, Tick}
 use Rattle.peer_messages.specs.declared.chronicle.Entry.TheVariants.{Asked, Turned}
 use Rattle.peer_messages.specs.declared.chronicle.Refusal.TheVariants.{Overloaded}
 use Rattle.peer_messages.specs.declared.outcome.Outputs.{Outputs}
 use Rattle.node_steps.specs.State.{NodeState}
-use Rattle.node_steps.specs.Acts.{Deed}
-use Rattle.node_steps.specs.Steps.{NodeStep, time_after, end_of_time}
+use Rattle.node_steps.specs.Steps.{risen_time, end_of_time}
+use Rattle.node_core.specs.Views.{NodeView, view_of}
+use Rattle.node_core.specs.Sites.{StepsFrom}
 use Rattle.cluster_runs.specs.Run.{opening}
 use Rattle.cluster_model.specs.State.{ClusterState, place_of, oldest_from, with_sent, passed_over}
 use Rattle.cluster_model.specs.declared.event.ClusterEvent.{ClusterEvent}
@@ -19,7 +20,7 @@ use Rattle.cluster_model.specs.declared.event.ClusterEvent.TheVariants as event
 abbrev pub event_of : What → Event
 event_of what = record { clock = 0; what = what }
 
-abbrev pub stepped : ClusterState → ℕ → Outputs → NodeState → ClusterState
+abbrev pub stepped : ClusterState → ℕ → Outputs → NodeView → ClusterState
 stepped v k o s' = record {
   setting = v.setting;
   nodes = slice_set v.nodes k s';
@@ -27,24 +28,24 @@ stepped v k o s' = record {
   chronicle = reverse (opening k o ++ o.entries) ++ v.chronicle;
 }
 
--- node k steps from s
-pub record StepsAt (v : ClusterState) (k : ℕ) (s : NodeState) (what : What) (v' : ClusterState) : Type 0 where
-  pub deeds : List Deed
+-- node k steps from s, whatever the arrivals of what it holds
+pub record StepsAt (v : ClusterState) (k : ℕ) (s : NodeView) (what : What) (v' : ClusterState) : Type 0 where
   pub outputs : Outputs
-  pub after : NodeState
-  pub step : NodeStep v.setting k s (event_of what) deeds outputs after
+  pub after : NodeView
+  pub from : (n : NodeState) → view_of n ≡ s → StepsFrom v.setting k n (event_of what) outputs after
   pub state : v' ≡ stepped v k outputs after
 
 -- a node whose time would pass its end takes no step: its client is told, and a message is lost
 abbrev pub not_stepped : ClusterState → ℕ → What → ClusterState
 not_stepped v k (Client ask) = record v { chronicle = Turned k Overloaded ∷ Asked None ∷ v.chronicle }
 not_stepped v k (Deliver m) = v
+not_stepped v k (Alive peer up) = v
 not_stepped v k Tick = v
 
 -- what comes at a node that is there; at another one nothing happens
-abbrev pub ComesAt : ClusterState → ℕ → What → Option NodeState → ClusterState → Type 0
+abbrev pub ComesAt : ClusterState → ℕ → What → Option NodeView → ClusterState → Type 0
 ComesAt v k what None v' = v' ≡ v
-ComesAt v k what (Some s) v' = MatchBool (nat_lt end_of_time (time_after s (event_of what))) (v' ≡ not_stepped v k what) (StepsAt v k s what v')
+ComesAt v k what (Some s) v' = MatchBool (nat_lt end_of_time (risen_time s.time (event_of what))) (v' ≡ not_stepped v k what) (StepsAt v k s what v')
 
 abbrev pub Comes : ClusterState → ℕ → What → ClusterState → Type 0
 Comes v k what v' = ComesAt v k what (slice_get v.nodes k) v'

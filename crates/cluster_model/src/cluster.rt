@@ -1,7 +1,7 @@
 //! The cluster.
 
 ghost use Rattle.std.specs.Prelude.{◌≡◌, ◌≤◌, IfOk, OnOk, OnErr, length, replicate, reverse};
-ghost use Rattle.node_steps.specs.State.{fresh_node};
+ghost use Rattle.node_core.specs.Views.{fresh_view};
 ghost use Rattle.read_consistency.specs.ReadRight.{ReadRight};
 ghost use Rattle.cluster_model.specs.State.{fresh_cluster};
 ghost use Rattle.cluster_model.specs.Sites.{AreSites, HoldsParts, state_of, states_of};
@@ -36,7 +36,7 @@ impl Model for Cluster {
 fn fresh_nodes(alloc: Global, setting: &Setting, count: u8) -> Result<Vec<Node>, AllocError>
     requires { count ≤ 7 }
     ensures sites { IfOk result (λ nodes. AreSites setting.now nodes.items) }
-    ensures states { IfOk result (λ nodes. states_of nodes.items ≡ replicate count fresh_node) }
+    ensures states { IfOk result (λ nodes. states_of nodes.items ≡ replicate count fresh_view) }
 {
     let mut nodes = Vec::new(alloc);
     for number in 0..count {

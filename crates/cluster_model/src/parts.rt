@@ -71,7 +71,7 @@ fn is_ask(what: &What) -> bool
 {
     match what {
         What::Client(_) => true,
-        What::Deliver(_) | What::Tick => false,
+        What::Deliver(_) | What::Alive(..) | What::Tick => false,
     }
 }
 

@@ -4,10 +4,10 @@ use Rattle.std.proofs.lemmas.List.{append-nil, reverse-append}
 use Rattle.std.specs.Prelude.{Result, Ok, Err, IfOk, MatchBool, nat_lt, slice_get}
 use Rattle.peer_messages.specs.declared.message.Message.{Message}
 use Rattle.peer_messages.specs.declared.event.What.{What}
-use Rattle.peer_messages.specs.declared.event.What.TheVariants.{Client, Deliver, Tick}
+use Rattle.peer_messages.specs.declared.event.What.TheVariants.{Client, Deliver, Alive, Tick}
 use Rattle.peer_messages.specs.declared.setting.Setting.{Setting}
-use Rattle.node_steps.specs.State.{NodeState}
-use Rattle.node_steps.specs.Steps.{time_after, end_of_time}
+use Rattle.node_steps.specs.Steps.{risen_time, end_of_time}
+use Rattle.node_core.specs.Views.{NodeView}
 use Rattle.read_consistency.specs.ReadRight.{ReadRight}
 use Rattle.chronicle_print.specs.Printed.{IsInPrint}
 use Rattle.schema_book.specs.Books.{Book}
@@ -55,15 +55,16 @@ same_stays v v' same = ap (λ (x : ClusterState). x.setting) same
 unstepped_stays : (v : ClusterState) (k : ℕ) (what : What) → Stays v (not_stepped v k what)
 unstepped_stays v k (Client ask) = refl
 unstepped_stays v k (Deliver m) = refl
+unstepped_stays v k (Alive peer up) = refl
 unstepped_stays v k Tick = refl
 
-taken_stays : (b : Bool) (v v' : ClusterState) (k : ℕ) (s : NodeState) (what : What) → MatchBool b (v' ≡ not_stepped v k what) (StepsAt v k s what v') → Stays v v'
+taken_stays : (b : Bool) (v v' : ClusterState) (k : ℕ) (s : NodeView) (what : What) → MatchBool b (v' ≡ not_stepped v k what) (StepsAt v k s what v') → Stays v v'
 taken_stays true v v' k s what h = same_stays (not_stepped v k what) v' h ∙ unstepped_stays v k what
 taken_stays false v v' k s what h = ap (λ (x : ClusterState). x.setting) h.state
 
-at_stays : (o : Option NodeState) (v v' : ClusterState) (k : ℕ) (what : What) → ComesAt v k what o v' → Stays v v'
+at_stays : (o : Option NodeView) (v v' : ClusterState) (k : ℕ) (what : What) → ComesAt v k what o v' → Stays v v'
 at_stays None v v' k what h = same_stays v v' h
-at_stays (Some s) v v' k what h = taken_stays (nat_lt end_of_time (time_after s (what_event what))) v v' k s what h
+at_stays (Some s) v v' k what h = taken_stays (nat_lt end_of_time (risen_time s.time (what_event what))) v v' k s what h
 
 arrives_stays : (o : Option Message) (v v' : ClusterState) (i : ℕ) → Arrives v i o v' → Stays v v'
 arrives_stays None v v' i h = same_stays v v' h

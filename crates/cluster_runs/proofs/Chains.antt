@@ -11,7 +11,7 @@ use Rattle.peer_messages.specs.declared.outcome.Outbound.{Outbound}
 use Rattle.peer_messages.specs.declared.setting.Setting.{Setting}
 use Rattle.node_steps.specs.State.{NodeState}
 use Rattle.node_steps.specs.Effects.{Effects}
-use Rattle.node_steps.specs.Acts.{Act, Rises, Hears, Asks, Incoming, Deed, Does, Chain, own_sends}
+use Rattle.node_steps.specs.Acts.{Act, Rises, Hears, Asks, Marks, Incoming, Deed, Does, Chain, own_sends}
 use Rattle.node_steps.specs.Acts.Chain.{begun, own, matter}
 use Rattle.node_steps.specs.Steps.{entries_of}
 use Rattle.cluster_runs.specs.Trace.{Scene, WasMade, MayTake, Trace, moved}
@@ -50,6 +50,7 @@ abbrev IsPending : List Deed → ℕ → Act → Type 0
 IsPending past k (Rises time) = ⊥
 IsPending past k (Hears m) = WasMade past k m
 IsPending past k (Asks ask) = ⊥
+IsPending past k (Marks peer up) = ⊥
 
 abbrev ArePending : List Deed → ℕ → List Act → Type 0
 ArePending past k acts = (a : Act) → Contains acts a → IsPending past k a
@@ -61,6 +62,7 @@ pending_more : (past : List Deed) (d : Deed) (k : ℕ) (a : Act) → IsPending p
 pending_more past d k (Rises time) h = h
 pending_more past d k (Hears m) h = made_more past d k m h
 pending_more past d k (Asks ask) h = h
+pending_more past d k (Marks peer up) h = h
 
 -- what node me sends to itself, by a move of its own
 own_pending : (past : List Deed) (d : Deed) (me : ℕ) (xs : List Outbound) → d.node ≡ me → ((x : Outbound) → Contains xs x → Contains d.effects.sends x) → ArePending (d ∷ past) me (own_sends me xs)
@@ -97,6 +99,7 @@ IsMatter past k [] = Unit {0}
 IsMatter past k (Rises time ∷ ms) = ⊥
 IsMatter past k (Hears m ∷ ms) = WasMade past k m × (ms ≡ [])
 IsMatter past k (Asks ask ∷ ms) = ms ≡ []
+IsMatter past k (Marks peer up ∷ ms) = ms ≡ []
 
 pub record Sofar (c : Setting) (w : Scene) (k : ℕ) (t : ℕ) (ms : List Act) (s : NodeState) (deeds : List Deed) (s' : NodeState) (pending left : List Act) : Type 0 where
   pub trace : Trace c (after w k deeds s')
@@ -131,6 +134,7 @@ may_hear : (past : List Deed) (k : ℕ) (s : NodeState) (a : Act) → IsPending 
 may_hear past k s (Rises time) h = tt
 may_hear past k s (Hears m) h = h
 may_hear past k s (Asks ask) h = absurd h
+may_hear past k s (Marks peer up) h = tt
 
 nil_cons : {X : Type 0} (x : X) (xs : List X) → [] ≡ x ∷ xs → ⊥
 nil_cons x xs e = cc
@@ -152,6 +156,7 @@ one_matter : (w : Scene) (k : ℕ) (a : Act) (left : List Act) → IsMatter w.pa
 one_matter w k (Rises time) left h = absurd h
 one_matter w k (Hears m) left h = (h.1, (h.0, refl))
 one_matter w k (Asks ask) left h = (h, refl)
+one_matter w k (Marks peer up) left h = (h, refl)
 
 stage_matter : (w : Scene) (k t : ℕ) (ms : List Act) (s : NodeState) (deeds : List Deed) (mid : NodeState) (a : Act) (p left l : List Act) → IsMatter w.past k ms → Stage t ms s deeds mid p l → l ≡ a ∷ left → Taking w k t ms s deeds mid a left
 stage_matter w k t ms s _ _ a _ left _ whole at_start e =
@@ -177,6 +182,7 @@ may_take_own c w k t s d mid (Asks ask) trace at later act is h = λ x there ask
           let same : x.before.time ≡ t = asked.1 ∙ is in
           absurd (omega (arith, before, same, later))
     ]
+may_take_own c w k t s d mid (Marks peer up) trace at later act is h = tt
 
 sofar_matter : (c : Setting) (w : Scene) (k t : ℕ) (ms : List Act) (s : NodeState) (deeds : List Deed) (mid s' : NodeState) (a : Act) (left : List Act) (o : Effects) → Trace c w → slice_get w.nodes k ≡ Some s → s.time < t
     → Sofar c w k t ms s deeds mid [] (a ∷ left) → Taking w k t ms s deeds mid a left → Does c k mid a o s'

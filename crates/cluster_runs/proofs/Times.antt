@@ -13,7 +13,7 @@ use Rattle.node_steps.specs.State.{NodeState}
 use Rattle.node_steps.specs.Effects.{Effects}
 use Rattle.node_steps.specs.Replicas.{Asker}
 use Rattle.node_steps.specs.Requests.{refusal_of, Begins, BeginsOrRefuses}
-use Rattle.node_steps.specs.Acts.{Act, Rises, Hears, Asks, Deed, Does, HearsBody}
+use Rattle.node_steps.specs.Acts.{Act, Rises, Hears, Asks, Marks, Deed, Does, HearsBody}
 use Rattle.cluster_runs.specs.Trace.{Scene, Trace, begun, moved, free}
 use Rattle.cluster_runs.proofs.Lists.{get_set}
 use Rattle.change_laws.proofs.Members.{contains_nil, contains_cases}
@@ -25,7 +25,7 @@ same_time : (s s' r : NodeState) → s' ≡ r → r.time ≡ s.time → s.time �
 same_time s s' r is same = let e : s'.time ≡ s.time = ap (λ (x : NodeState). x.time) is ∙ same in omega arith
 
 hears_time : (c : Setting) (a : Asker) (b : Body) (s : NodeState) (o : Effects) (s' : NodeState) → HearsBody c a b s o s' → s.time ≤ s'.time
-hears_time c a (Write m) s o s' h = same_time s s' _ h.2 refl
+hears_time c a (Write m) s o s' h = same_time s s' _ h.3 refl
 hears_time c a WriteAck s o s' h = same_time s s' _ h.3 refl
 hears_time c a (Read q) s o s' h = same_time s s' _ h.3 refl
 hears_time c a (ReadReply content) s o s' h = same_time s s' _ h.3 refl
@@ -43,7 +43,8 @@ asks_time c id p l (Some r) s o s' h = same_time s s' _ h.1 refl
 pub does_time : (c : Setting) (me : ℕ) (s : NodeState) (a : Act) (o : Effects) (s' : NodeState) → Does c me s a o s' → s.time ≤ s'.time
 does_time c me s (Rises time) o s' h = let e : s'.time ≡ time = ap (λ (x : NodeState). x.time) h.2 in let later = h.0 in omega arith
 does_time c me s (Hears m) o s' h = hears_time c (record { from = m.from; request = m.request }) m.body s o s' h
-does_time c me s (Asks ask) o s' h = asks_time c (record { node = me; time = s.time }) ask.plan ask.level (refusal_of c ask.plan ask.level) s o s' h
+does_time c me s (Asks ask) o s' h = asks_time c (record { node = me; time = s.time }) ask.plan ask.level (refusal_of c s.down ask.plan ask.level) s o s' h
+does_time c me s (Marks peer up) o s' h = same_time s s' _ h.1 refl
 
 -- each move was made at a time that its node has
 abbrev pub ArePassed : Scene → Type 0

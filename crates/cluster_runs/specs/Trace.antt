@@ -7,7 +7,7 @@ use Rattle.peer_messages.specs.declared.chronicle.Refusal.{Refusal}
 use Rattle.peer_messages.specs.declared.event.Ask.{Ask}
 use Rattle.peer_messages.specs.declared.setting.Setting.{Setting}
 use Rattle.node_steps.specs.State.{NodeState, fresh_node}
-use Rattle.node_steps.specs.Acts.{Act, Rises, Hears, Asks, Deed, Does, Incoming}
+use Rattle.node_steps.specs.Acts.{Act, Rises, Hears, Asks, Marks, Deed, Does, Incoming}
 use Rattle.cluster_runs.specs.World.{World}
 
 -- each node's state, the chronicle and each move that was made, the newest first
@@ -36,6 +36,7 @@ abbrev pub MayTake : List Deed → ℕ → NodeState → Act → Type 0
 MayTake past k s (Rises time) = Unit {0}
 MayTake past k s (Hears m) = WasMade past k m
 MayTake past k s (Asks ask) = (d : Deed) → Contains past d → IsAskAt k s.time d → ⊥
+MayTake past k s (Marks peer up) = Unit {0}
 
 -- one move of node k
 pub record Move (c : Setting) (w : Scene) (k : ℕ) (d : Deed) (w' : Scene) : Type 0 where

@@ -1,24 +1,25 @@
 -- The moves of a node in a step, one after another.
-use Rattle.std.proofs.Common.{◌≡◌, ◌≢◌, ◌⊎◌, inl, inr, ℕ, zero, suc, ◌+◌, ◌<◌, ◌≤◌, Bool, true, false, cond, Option, Some, None, List, [], ◌∷◌, ◌++◌, append-nil, length, refl, sym, ap, subst, ◌∙◌, arith, map, filter}
-use Rattle.std.specs.Prelude.{◌==◌, not, if◌then◌else◌, MatchBool, flat_map, fold, nat_lt, slice_get}
+use Rattle.std.proofs.Common.{◌≡◌, ◌⊎◌, inl, inr, ℕ, zero, suc, ◌+◌, ◌<◌, Bool, true, false, cond, Option, Some, None, List, [], ◌∷◌, ◌++◌, append-nil, length, refl, sym, ap, subst, ◌∙◌, arith, map, filter}
+use Rattle.std.specs.Prelude.{◌==◌, ◌&&◌, not, if◌then◌else◌, fold, slice_get}
 use Rattle.std.specs.List.{range_with_len}
 use Rattle.std.proofs.lemmas.List.{map-append}
 use Rattle.std.proofs.lemmas.List.Elements.{filter-append}
-use Rattle.std.proofs.lemmas.Bool.{eq-eqb, ne_eqb, cases_Bool, eqb-true}
+use Rattle.std.proofs.lemmas.Bool.{ne_eqb, cases_Bool, eqb-true}
 use Rattle.cs_base.specs.declared.ids.ReqId.{ReqId}
 use Rattle.peer_messages.specs.declared.message.Body.{Body}
 use Rattle.peer_messages.specs.declared.message.Message.{Message}
 use Rattle.peer_messages.specs.declared.chronicle.Entry.{Entry}
 use Rattle.peer_messages.specs.declared.outcome.Outbound.{Outbound}
 use Rattle.changes.specs.declared.Partition.{Partition}
+use Rattle.cs_base.specs.Quorums.{is_in}
 use Rattle.cs_base.specs.Ring.{is_replica_at}
 use Rattle.peer_messages.specs.declared.setting.Setting.{Setting}
-use Rattle.peer_messages.specs.Settings.{factor_of, replicas_of}
+use Rattle.peer_messages.specs.Settings.{factor_of, alive_at}
 use Rattle.node_steps.specs.State.{NodeState}
 use Rattle.node_steps.specs.Effects.{Effects, outbound, send_to}
 use Rattle.node_steps.specs.Acts.{Act, Hears, Does, Deed, Chain, own_sends}
 use Rattle.node_steps.specs.Acts.Chain.{begun, own, matter}
-use Rattle.node_steps.specs.Steps.{message_of, messages_of, sends_of, entries_of}
+use Rattle.node_steps.specs.Steps.{message_of, messages_of}
 use Rattle.node_core.specs.Gives.{Gives, own_next, own_of}
 use Rattle.node_core.specs.declared.kept.Given.{Given}
 
@@ -159,5 +160,22 @@ goes p me id body (suc n) a =
       | inr fails ↦ subst (λ (v : Bool). Goes me id body (cond v (a ∷ filter_range p (a + 1) n) (filter_range p (a + 1) n))) (sym fails) rest
     ]
 
-pub goes_to_replicas : (c : Setting) (me : ℕ) (id : ReqId) (body : Body) (q : Partition) → GoesHere me id body (send_to id body (replicas_of c q)) ⊎ GoesElsewhere me (send_to id body (replicas_of c q))
-goes_to_replicas c me id body q = goes (λ k. is_replica_at c.ring (factor_of c q.table) q.token (slice_get c.ring k)) me id body (length c.ring) 0
+twice_filtered : (p q : ℕ → Bool) (xs : List ℕ) → filter p (filter q xs) ≡ filter (λ k. q k && p k) xs
+twice_filtered p q [] = refl
+twice_filtered p q (x ∷ xs) =
+    let rest = twice_filtered p q xs in
+    elim (cases_Bool (q x)) [
+      | inl passes ↦
+          ap (λ (b : Bool). filter p (cond b (x ∷ filter q xs) (filter q xs))) passes
+          ∙ ap (λ (ks : List ℕ). cond (p x) (x ∷ ks) ks) rest
+          ∙ sym (ap (λ (b : Bool). cond (b && p x) (x ∷ filter (λ k. q k && p k) xs) (filter (λ k. q k && p k) xs)) passes)
+      | inr fails ↦
+          ap (λ (b : Bool). filter p (cond b (x ∷ filter q xs) (filter q xs))) fails ∙ rest
+          ∙ sym (ap (λ (b : Bool). cond (b && p x) (x ∷ filter (λ k. q k && p k) xs) (filter (λ k. q k && p k) xs)) fails)
+    ]
+
+pub goes_to_alive : (c : Setting) (down : List ℕ) (me : ℕ) (id : ReqId) (body : Body) (q : Partition) → GoesHere me id body (send_to id body (alive_at c down q)) ⊎ GoesElsewhere me (send_to id body (alive_at c down q))
+goes_to_alive c down me id body q =
+    let is_replica : ℕ → Bool = λ k. is_replica_at c.ring (factor_of c q.table) q.token (slice_get c.ring k) in
+    let is_up : ℕ → Bool = λ k. not (is_in down k) in
+    subst (λ (ks : List ℕ). Goes me id body ks) (sym (twice_filtered is_up is_replica (range_with_len 0 (length c.ring)))) (goes (λ k. is_replica k && is_up k) me id body (length c.ring) 0)

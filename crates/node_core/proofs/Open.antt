@@ -1,5 +1,5 @@
 -- Open requests by id, after one of them has moved.
-use Rattle.std.proofs.Common.{◌≡◌, ◌⊎◌, inl, inr, Bool, true, false, cond, Option, Some, None, List, [], ◌∷◌, refl, sym, ap, subst, ◌∙◌, ℕ}
+use Rattle.std.proofs.Common.{◌≡◌, inl, inr, Bool, true, false, cond, Option, Some, None, List, [], ◌∷◌, refl, sym, ap, subst, ◌∙◌}
 use Rattle.std.specs.Result.{OnErr}
 use Rattle.std.specs.declared.result.Result.{Result}
 use Rattle.std.specs.declared.result.Result.TheVariants.{Ok, Err}
@@ -11,11 +11,9 @@ use Rattle.std.specs.declared.cmp.Ordering.TheVariants.{Less, Equal, Greater}
 use Rattle.std.proofs.lemmas.Map.Steps.{set_value_same}
 use Rattle.std.proofs.lemmas.Cmp.{nat_cmp_total, on_total, then_total, tied_itself}
 use Rattle.std.specs.Cmp.{IsTotalOrder}
-use Rattle.std.specs.Ordering.{nat_cmp}
 use Rattle.cs_base.specs.declared.ids.ReqId.{ReqId}
 use Rattle.cs_base.specs.Requests.{request_cmp}
 use Rattle.peer_messages.specs.declared.outcome.Move.{Move}
-use Rattle.peer_messages.specs.Moves.{quiet}
 use Rattle.node_steps.specs.Effects.{open_at, after_move, Takes, AtRequest}
 use Rattle.node_core.specs.Here.{MayHaveMoved}
 

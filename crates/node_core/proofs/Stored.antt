@@ -1,11 +1,9 @@
 -- What the contents of partitions hold, by the look-up of a partition.
-use Rattle.std.proofs.Common.{◌≡◌, ◌≢◌, ◌⊎◌, ◌↔◌, inl, inr, Bool, true, false, cond, ℤ, ℕ, Option, Some, None, List, [], ◌∷◌, ◌++◌, Contains, refl, sym, ap, subst, ◌∙◌}
+use Rattle.std.proofs.Common.{◌≡◌, ◌⊎◌, inl, inr, Bool, true, false, Option, Some, None, List, [], ◌∷◌, ◌++◌, Contains, refl, sym, ap, subst}
 use Rattle.std.specs.Option.{unwrap_or, IsSome}
-use Rattle.std.specs.List.{flat_map}
 use Rattle.std.specs.Ordering.{is_eq, eq_by_cmp}
 use Rattle.std.specs.declared.cmp.Ordering.{Ordering}
 use Rattle.std.specs.declared.cmp.Ordering.TheVariants.{Less, Equal, Greater}
-use Rattle.std.specs.Map.{lookup}
 use Rattle.std.specs.BTreeMap.{BTreeMap, is_at, get, IsOrdered, Updates}
 use Rattle.std.proofs.lemmas.Cmp.{eq_by_cmp_equiv}
 use Rattle.std.proofs.lemmas.Map.Keys.{IsDistinct-from_sorted}
@@ -14,13 +12,13 @@ use Rattle.changes.specs.declared.Partition.{Partition}
 use Rattle.changes.specs.declared.Held.{Held}
 use Rattle.changes.specs.declared.Change.{Change}
 use Rattle.changes.specs.declared.Query.{Query}
-use Rattle.changes.specs.Order.{Outranks, partition_cmp}
+use Rattle.changes.specs.Order.{partition_cmp}
 use Rattle.changes.specs.Contents.{Either, IsContent}
-use Rattle.changes.specs.Queries.{IsSlice, InQuery}
+use Rattle.changes.specs.Queries.{IsSlice}
 use Rattle.change_laws.proofs.PartitionLaws.{partition_total, partition_exact}
 use Rattle.change_laws.proofs.Members.{contains_nil, contains_cases, contains_here, contains_there, contains_map, contains_from_map}
 use Rattle.node_steps.specs.State.{Holds}
-use Rattle.node_steps.specs.Replicas.{IsHeldOf, IsAnswerTo, TakesIn}
+use Rattle.node_steps.specs.Replicas.{IsAnswerTo, TakesIn}
 use Rattle.node_core.specs.Stores.{stored, stored_all, all_of}
 
 equal_at : (o : Ordering) → is_eq o ≡ true → o ≡ Equal

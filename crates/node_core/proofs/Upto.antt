@@ -1,21 +1,20 @@
 -- When the open requests began.
-use Rattle.std.proofs.Common.{◌≡◌, ◌⊎◌, inl, inr, ℕ, suc, ◌<◌, ◌≤◌, Bool, true, false, Option, Some, None, List, [], ◌∷◌, ◌++◌, refl, sym, ap, subst, ◌∙◌, arith, length, cond}
+use Rattle.std.proofs.Common.{◌≡◌, inl, inr, ℕ, suc, ◌<◌, ◌≤◌, Bool, true, false, Option, Some, None, List, [], ◌∷◌, refl, sym, ap, subst, ◌∙◌, arith, cond}
 use Rattle.std.specs.declared.cmp.Ordering.{Ordering}
 use Rattle.std.specs.declared.cmp.Ordering.TheVariants.{Less, Equal, Greater}
 use Rattle.std.proofs.lemmas.Map.Lookups.{exact_unsigned}
 use Rattle.change_laws.proofs.SignLaws.{then_equal}
 use Rattle.changes.specs.Drafts.{mutation_of}
-use Rattle.node_core.proofs.Chains.{GoesHere, GoesElsewhere, goes_to_replicas}
+use Rattle.node_core.proofs.Chains.{goes_to_alive}
 use Rattle.std.specs.Prelude.{All}
 use Rattle.std.specs.Ordering.{is_eq, nat_cmp}
-use Rattle.std.specs.Map.{keys_of, lookup, set_value, remove_entry}
+use Rattle.std.specs.Map.{keys_of}
 use Rattle.std.specs.BTreeMap.{BTreeMap, is_at, insert_entry}
 use Rattle.std.proofs.lemmas.Map.{keys-set_value}
 use Rattle.std.proofs.lemmas.Map.Views.{All-keys-insert_entry, All-map-remove_entry}
 use Rattle.cs_base.specs.declared.ids.ReqId.{ReqId}
 use Rattle.cs_base.specs.declared.level.Level.{Level}
 use Rattle.cs_base.specs.Requests.{request_cmp}
-use Rattle.changes.specs.declared.Held.{Held}
 use Rattle.changes.specs.declared.DraftMutation.{DraftMutation}
 use Rattle.changes.specs.declared.Query.{Query}
 use Rattle.statement_plan.specs.declared.plan.Columns.{Columns}
@@ -65,10 +64,10 @@ same_keys {A} time xs xs' same h = subst (λ (es : List (ReqId × A)). Upto time
 pub same_upto : (time : ℕ) (k k' : Kept) → IsSameKept k k' → AreUpto time k → AreUpto time k'
 same_upto time k k' same h = (same_keys time _ _ same.writes h.0, same_keys time _ _ same.reads h.1)
 
-pub write_upto : (c : Setting) (id : ReqId) (l : Level) (d : DraftMutation) (k k' : Kept) (g' : Given) → BeginsWrite c id l d k k' g' → AreUpto id.time k → AreUpto id.time k'
-write_upto c id l d k k' g' b upto =
+pub write_upto : (c : Setting) (down : List ℕ) (id : ReqId) (l : Level) (d : DraftMutation) (k k' : Kept) (g' : Given) → BeginsWrite c down id l d k k' g' → AreUpto id.time k → AreUpto id.time k'
+write_upto c down id l d k k' g' b upto =
     let inserted = new_upto id (started_write l d) k.writes.entries upto.0 in
-    elim (goes_to_replicas c id.node id (Write (mutation_of id d)) d.partition) [
+    elim (goes_to_alive c down id.node id (Write (mutation_of id d)) d.partition) [
       | inl here ↦
           let h : WritesHere c id (started_write l d) (mutation_of id d) k k' b.opened.given g' =
           subst (λ (o : Option Body). WritesAs c id (started_write l d) o k k' b.opened.given g') (b.opens.own ∙ here.body_is) b.writes in
@@ -78,10 +77,10 @@ write_upto c id l d k k' g' b upto =
           (same_keys id.time _ _ w.2 inserted, same_keys id.time _ _ w.3 upto.1)
     ]
 
-pub read_upto : (c : Setting) (id : ReqId) (l : Level) (q : Query) (v : Columns) (k k' : Kept) (g' : Given) → BeginsRead c id l q v k k' g' → AreUpto id.time k → AreUpto id.time k'
-read_upto c id l q v k k' g' b upto =
+pub read_upto : (c : Setting) (down : List ℕ) (id : ReqId) (l : Level) (q : Query) (v : Columns) (k k' : Kept) (g' : Given) → BeginsRead c down id l q v k k' g' → AreUpto id.time k → AreUpto id.time k'
+read_upto c down id l q v k k' g' b upto =
     let inserted = new_upto id (started_read l q) k.reads.entries upto.1 in
-    elim (goes_to_replicas c id.node id (Read q) q.partition) [
+    elim (goes_to_alive c down id.node id (Read q) q.partition) [
       | inl here ↦
           let h : ReadsHere c id (started_read l q) q k k' b.opened.given g' = subst (λ (o : Option Body). ReadsAs c id (started_read l q) o k k' b.opened.given g') (b.opens.own ∙ here.body_is) b.reads in
           (same_keys id.time _ _ h.writes upto.0, at_upto id.time (HearsReply c id id.node h.part) id _ _ h.turn h.hears inserted)

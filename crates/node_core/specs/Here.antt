@@ -1,5 +1,5 @@
 -- A request at a node that is one of the replicas itself.
-use Rattle.std.specs.Prelude.{◌≡◌, ◌⊎◌, ◌++◌, List, [], ◌∷◌, Option, Some, None}
+use Rattle.std.specs.Prelude.{◌≡◌, ℕ, ◌⊎◌, ◌++◌, List, [], ◌∷◌, Option, Some, None}
 use Rattle.std.specs.Map.{remove_entry, set_value}
 use Rattle.std.specs.BTreeMap.{insert_entry, is_at}
 use Rattle.node_steps.specs.Effects.{AtRequest, outbound}
@@ -95,9 +95,9 @@ pub record Opens (id : ReqId) (turn : Move) (o : Opened) : Type 0 where
   pub entries : o.given.entries ≡ turn.entries
   pub own : o.own ≡ own_of id.node turn.sends
 
-pub record BeginsWrite (c : Setting) (id : ReqId) (l : Level) (d : DraftMutation) (k k' : Kept) (g' : Given) : Type 0 where
+pub record BeginsWrite (c : Setting) (down : List ℕ) (id : ReqId) (l : Level) (d : DraftMutation) (k k' : Kept) (g' : Given) : Type 0 where
   pub opened : Opened
-  pub opens : Opens id (start_write c id d) opened
+  pub opens : Opens id (start_write c down id d) opened
   pub writes : WritesAs c id (started_write l d) opened.own k k' opened.given g'
 
 abbrev pub ReadsAs : Setting → ReqId → OpenRead → Option Body → Kept → Kept → Given → Given → Type 0
@@ -105,9 +105,9 @@ ReadsAs c id r None k k' g g' = (g' ≡ g) × (k'.contents.entries ≡ k.content
 ReadsAs c id r (Some (Read q)) k k' g g' = ReadsHere c id r q k k' g g'
 ReadsAs c id r (Some b) k k' g g' = Unit {0}
 
-pub record BeginsRead (c : Setting) (id : ReqId) (l : Level) (q : Query) (columns : Columns) (k k' : Kept) (g' : Given) : Type 0 where
+pub record BeginsRead (c : Setting) (down : List ℕ) (id : ReqId) (l : Level) (q : Query) (columns : Columns) (k k' : Kept) (g' : Given) : Type 0 where
   pub opened : Opened
-  pub opens : Opens id (start_read c id l q columns) opened
+  pub opens : Opens id (start_read c down id l q columns) opened
   pub reads : ReadsAs c id (started_read l q) opened.own k k' opened.given g'
 
 -- ---- a body of another node

@@ -6,7 +6,7 @@ ghost use Rattle.cs_base.specs.Requests.{request_cmp};
 ghost use Rattle.changes.specs.Order.{partition_cmp};
 ghost use Rattle.peer_messages.specs.Settings.{IsTable};
 ghost use Rattle.peer_messages.specs.declared.event.Plan.TheVariants.{Write as WritePlan, Read as ReadPlan};
-ghost use Rattle.node_steps.specs.State.{fresh_node};
+ghost use Rattle.node_core.specs.Views.{fresh_view};
 ghost use Rattle.node_steps.specs.Effects.{open_at};
 ghost use Rattle.node_steps.specs.Writes.{HearsAck};
 ghost use Rattle.node_steps.specs.Reads.{HearsReply};
@@ -185,11 +185,11 @@ impl Given {
 }
 
 impl Kept {
-    ghost use Rattle.node_core.specs.Gives.{state_of, Gives};
+    ghost use Rattle.node_core.specs.Gives.{view_at};
     ghost use Rattle.node_core.specs.Here.{Acknowledges, Replies, BeginsWrite, WritesAs, BeginsRead, ReadsAs, HearsAs, HearsWrite, HearsWriteAck, HearsRead, HearsReadReply, HasOnlyMovedWrite, MayHaveMoved, WritesHere, ReadsHere, IsSameKept, IsSameBut};
 
     pub(crate) fn new(alloc: Global) -> Kept
-        ensures state { state_of 0 result ≡ fresh_node }
+        ensures view { view_at 0 [] result ≡ fresh_view }
         ensures ordered { IsOrdered partition_cmp result.contents }
     {
         Kept {
@@ -296,6 +296,7 @@ impl Kept {
         &mut self,
         alloc: Global,
         setting: &Setting,
+        down: &[NodeId],
         request: ReqId,
         level: Level,
         draft: &DraftMutation,
@@ -303,7 +304,7 @@ impl Kept {
         requires ordered { IsOrdered partition_cmp self.old.contents }
         requires new { open_at self.old.writes.entries request ≡ None }
         requires time { request.time < 2 ^ 63 }
-        ensures ok { IfOk result (λ given. BeginsWrite setting.now request level draft.now self.old self.new given) }
+        ensures ok { IfOk result (λ given. BeginsWrite setting.now down.now request level draft.now self.old self.new given) }
         ensures ordered { IsOrdered partition_cmp self.new.contents }
         ensures err { OnErr result (IsSameKept self.old self.new) }
     {
@@ -311,7 +312,7 @@ impl Kept {
         let opened = open_with(
             alloc,
             request,
-            write_coord::opening(alloc, setting, request, draft)?,
+            write_coord::opening(alloc, setting, down, request, draft)?,
         )?;
         self.open_write(alloc, setting, request, write, opened)
     }
@@ -360,6 +361,7 @@ impl Kept {
         &mut self,
         alloc: Global,
         setting: &Setting,
+        down: &[NodeId],
         request: ReqId,
         level: Level,
         query: &Query,
@@ -367,7 +369,7 @@ impl Kept {
     ) -> Result<Given, AllocError>
         requires ordered { IsOrdered partition_cmp self.old.contents }
         requires new { open_at self.old.reads.entries request ≡ None }
-        ensures ok { IfOk result (λ given. BeginsRead setting.now request level query.now columns self.old self.new given) }
+        ensures ok { IfOk result (λ given. BeginsRead setting.now down.now request level query.now columns self.old self.new given) }
         ensures ordered { IsOrdered partition_cmp self.new.contents }
         ensures err { OnErr result (IsSameKept self.old self.new) }
     {
@@ -375,7 +377,7 @@ impl Kept {
         let opened = open_with(
             alloc,
             request,
-            read_coord::opening(alloc, setting, request, level, query, columns)?,
+            read_coord::opening(alloc, setting, down, request, level, query, columns)?,
         )?;
         self.open_read(alloc, setting, request, read, opened)
     }

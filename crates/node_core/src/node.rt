@@ -1,13 +1,12 @@
 //! A node: an event's matter at the time to which the node's own rises.
 
 ghost use Rattle.std.specs.Prelude.{◌≡◌, ◌<◌, ◌≤◌, ◌^◌, ◌-◌, ◌↔◌, [], Err, IsNone, IfOk, IfSome, OnErr, length, max};
-ghost use Rattle.node_steps.specs.State.{fresh_node};
-ghost use Rattle.node_steps.specs.Steps.{message_time as message_time_of, time_after, risen_time, end_of_time, started_by};
+ghost use Rattle.node_steps.specs.Steps.{message_time as message_time_of, risen_time, end_of_time, started_by};
 ghost use Rattle.node_core.specs.declared.node.StepError.TheVariants.{NoRoom, NoMemory};
 
 use crate::kept::Kept;
-use cs_base::{Micros, NodeId, ReqId};
-use peer_messages::{Event, Outputs, Setting, What};
+use cs_base::{Items, Micros, NodeId, ReqId};
+use peer_messages::{Event, NodeIds, Outputs, Setting, What};
 use std::alloc::{AllocError, Global};
 use std::marker::Model;
 
@@ -38,7 +37,7 @@ fn message_time(what: &What) -> u128
 {
     match what {
         What::Deliver(message) => u128::from(message.time.count()) + 1,
-        What::Client(_) | What::Tick => 0,
+        What::Client(_) | What::Alive(..) | What::Tick => 0,
     }
 }
 
@@ -61,7 +60,7 @@ fn request_began(me: NodeId, time: Micros, what: &What) -> Option<ReqId>
 {
     match what {
         What::Client(_) => Some(ReqId { node: me, time }),
-        What::Deliver(_) | What::Tick => None,
+        What::Deliver(_) | What::Alive(..) | What::Tick => None,
     }
 }
 
@@ -71,16 +70,17 @@ pub struct Node {
     me: NodeId,
     setting: Setting,
     time: Micros,
+    down: NodeIds,
     kept: Kept,
 }
 
 impl Model for Node {
     ghost use Rattle.node_core.specs.Sites.{Site, HoldsNode};
-    ghost use Rattle.node_core.specs.Gives.{state_of};
+    ghost use Rattle.node_core.specs.Gives.{view_at};
 
     ghost Value = { Site };
 
-    ghost view = { λ a. record { setting = a.setting; me = a.me; state = state_of a.time a.kept } };
+    ghost view = { λ a. record { setting = a.setting; me = a.me; state = view_at a.time a.down a.kept } };
 
     ghost invariant = { λ a. HoldsNode a.time a.kept };
 }
@@ -88,7 +88,7 @@ impl Model for Node {
 impl Node {
     ghost use Rattle.node_core.specs.Sites.{Steps, fresh_site};
 
-    /// A node that holds nothing yet.
+    /// A node that holds nothing yet, and takes all others for alive.
     pub fn load(alloc: Global, me: NodeId, setting: Setting) -> Node
         ensures { result ≡ fresh_site setting me }
     {
@@ -96,6 +96,7 @@ impl Node {
             me,
             setting,
             time: Micros::new(0),
+            down: Items::new(alloc),
             kept: Kept::new(alloc),
         }
     }
@@ -103,16 +104,21 @@ impl Node {
     /// Takes an event. An error leaves the node as it was, and the event has not happened.
     pub fn step(&mut self, alloc: Global, event: Event) -> Result<Outputs, StepError>
         ensures ok { IfOk result (λ outputs. Steps self.old event outputs self.new) }
-        ensures no_room { (result ≡ Err NoRoom) ↔ (end_of_time < time_after self.old.state event) }
+        ensures no_room { (result ≡ Err NoRoom) ↔ (end_of_time < risen_time self.old.state.time event) }
         ensures err { OnErr result (self.new ≡ self.old) }
     {
         let Some(time) = risen(self.time, &event) else {
             return Err(StepError::NoRoom);
         };
         let started = request_began(self.me, time, &event.what);
-        let given = self
-            .kept
-            .take(alloc, &self.setting, self.me, time, event.what)?;
+        let given = self.kept.take(
+            alloc,
+            &self.setting,
+            &mut self.down,
+            self.me,
+            time,
+            event.what,
+        )?;
         self.time = time;
         Ok(Outputs {
             time,

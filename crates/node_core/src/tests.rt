@@ -284,6 +284,63 @@ fn requests_are_refused(rt: HostRuntime) -> Result<(), Fail> {
     Ok(())
 }
 
+fn mark(alloc: Global, node: &mut Node, peer: u8, up: bool) -> Result<(), Fail> {
+    let outputs = take(alloc, node, What::Alive(id(peer)?, up))?;
+    let is_quiet = outputs.sends.as_slice().is_empty() && outputs.entries.as_slice().is_empty();
+    Ok(is_quiet.then_some(()).ok_or("a mark gives something")?)
+}
+
+/// The other nodes to which a write at this level goes, as the bits of their numbers.
+fn written_to(alloc: Global, node: &mut Node, level: Level) -> Result<u8, Fail> {
+    let plan = write(alloc, b"x", 5)?;
+    let outputs = take(alloc, node, What::Client(Ask { plan, level }))?;
+    let mut nodes = 0;
+    for message in outputs.sends.as_slice() {
+        nodes |= 1 << message.upto.number();
+    }
+    Ok(nodes)
+}
+
+#[test]
+fn dead_replicas_are_not_asked(rt: HostRuntime) -> Result<(), Fail> {
+    let alloc = rt.alloc();
+    let mut first = node(alloc, 0)?;
+    for (peer, up, others) in [
+        (1, false, 0b100),
+        (1, false, 0b100),
+        (0, false, 0b100),
+        (5, false, 0b100),
+        (2, true, 0b100),
+        (1, true, 0b110),
+        (2, false, 0b010),
+    ] {
+        mark(alloc, &mut first, peer, up)?;
+        assert_eq!(rt; written_to(alloc, &mut first, Level::Quorum)?, others);
+    }
+    Ok(())
+}
+
+#[test]
+fn too_few_replicas_are_alive(rt: HostRuntime) -> Result<(), Fail> {
+    let alloc = rt.alloc();
+    let mut first = node(alloc, 0)?;
+    mark(alloc, &mut first, 1, false)?;
+    mark(alloc, &mut first, 2, false)?;
+    let two = told_at(alloc, &mut first, read(alloc)?, Level::Two)?;
+    assert!(rt;
+        matches!(
+            two,
+            Told::Refused(Refusal::Unavailable {
+                required: 2,
+                alive: 1
+            })
+        )
+    );
+    let one = told_at(alloc, &mut first, write(alloc, b"x", 5)?, Level::One)?;
+    assert!(rt; matches!(one, Told::Acked(1)));
+    Ok(())
+}
+
 #[test]
 fn statements_without_a_partition_are_answered(rt: HostRuntime) -> Result<(), Fail> {
     let alloc = rt.alloc();

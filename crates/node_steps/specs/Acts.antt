@@ -1,5 +1,5 @@
 -- The small moves of a node: each takes one thing, and is told of that node's state alone.
-use Rattle.std.specs.Prelude.{◌≡◌, ℕ, ◌<◌, ◌==◌, if◌then◌else◌, List, [], ◌∷◌, ◌++◌}
+use Rattle.std.specs.Prelude.{◌≡◌, ℕ, Bool, ◌<◌, ◌==◌, if◌then◌else◌, List, [], ◌∷◌, ◌++◌}
 use Rattle.cs_base.specs.declared.ids.ReqId.{ReqId}
 use Rattle.changes.specs.declared.Held.{Held}
 use Rattle.peer_messages.specs.declared.event.Ask.{Ask}
@@ -8,11 +8,12 @@ use Rattle.peer_messages.specs.declared.message.Body.TheVariants.{Write, WriteAc
 use Rattle.peer_messages.specs.declared.outcome.Outbound.{Outbound}
 use Rattle.peer_messages.specs.declared.outcome.Move.{Move}
 use Rattle.peer_messages.specs.declared.setting.Setting.{Setting}
-use Rattle.node_steps.specs.State.{NodeState, OpenWrite, OpenRead}
+use Rattle.peer_messages.specs.Settings.{marked}
+use Rattle.node_steps.specs.State.{NodeState, OpenWrite, OpenRead, changes_of}
 use Rattle.node_steps.specs.Effects.{Effects, nothing, effects_of, AtRequest}
 use Rattle.node_steps.specs.Writes.{HearsAck}
 use Rattle.node_steps.specs.Reads.{HearsReply}
-use Rattle.node_steps.specs.Replicas.{Asker, replies, TakesIn, IsAnswerTo}
+use Rattle.node_steps.specs.Replicas.{Asker, replies, TakesIn, ArriveAt, IsAnswerTo}
 use Rattle.node_steps.specs.Requests.{refusal_of, BeginsOrRefuses}
 
 -- a body that comes to a node, its own ones too
@@ -28,6 +29,8 @@ pub data Act : Type 0 where
   Hears : (incoming : Incoming) → Act
   -- a client asks
   Asks : (ask : Ask) → Act
+  -- another node is marked alive, or else dead
+  Marks : (peer : ℕ) (up : Bool) → Act
 
 abbrev pub request_at : ℕ → ℕ → ReqId
 request_at me time = record { node = me; time = time }
@@ -40,16 +43,19 @@ AtRead Step id s o s' = (turn : Move) × AtRequest Step id s.reads turn s'.reads
 
 -- by what came
 abbrev pub HearsBody : Setting → Asker → Body → NodeState → Effects → NodeState → Type 0
-HearsBody c a (Write m) s o s' = TakesIn s.content m.partition m.changes s'.content × (o ≡ replies a WriteAck) × (s' ≡ record s { content = s'.content })
+HearsBody c a (Write m) s o s' =
+    TakesIn (changes_of s.content) m.partition m.changes (changes_of s'.content) × ArriveAt s.time s.content s'.content
+    × (o ≡ replies a WriteAck) × (s' ≡ record s { content = s'.content })
 HearsBody c a WriteAck s o s' = AtWrite (HearsAck c a.request a.from) a.request s o s'
-HearsBody c a (Read q) s o s' = (part : List Held) × IsAnswerTo s.content q part × (o ≡ replies a (ReadReply part)) × (s' ≡ s)
+HearsBody c a (Read q) s o s' = (part : List Held) × IsAnswerTo (changes_of s.content) q part × (o ≡ replies a (ReadReply part)) × (s' ≡ s)
 HearsBody c a (ReadReply content) s o s' = AtRead (HearsReply c a.request a.from content) a.request s o s'
 
 -- From s node me may make this move, and give these effects
 abbrev pub Does : Setting → ℕ → NodeState → Act → Effects → NodeState → Type 0
 Does c me s (Rises time) o s' = (s.time < time) × (o ≡ nothing) × (s' ≡ record s { time = time })
 Does c me s (Hears m) o s' = HearsBody c (record { from = m.from; request = m.request }) m.body s o s'
-Does c me s (Asks ask) o s' = BeginsOrRefuses c (request_at me s.time) ask.plan ask.level (refusal_of c ask.plan ask.level) s o s'
+Does c me s (Asks ask) o s' = BeginsOrRefuses c (request_at me s.time) ask.plan ask.level (refusal_of c s.down ask.plan ask.level) s o s'
+Does c me s (Marks peer up) o s' = (o ≡ nothing) × (s' ≡ record s { down = marked s.down peer up })
 
 -- a move that was made, with all that can be known of it
 pub record Deed : Type 0 where

@@ -7,13 +7,13 @@ use Rattle.peer_messages.specs.declared.message.Body.TheVariants as body
 use Rattle.peer_messages.specs.declared.message.Message.{Message}
 use Rattle.peer_messages.specs.declared.event.Event.{Event}
 use Rattle.peer_messages.specs.declared.event.What.{What}
-use Rattle.peer_messages.specs.declared.event.What.TheVariants.{Client, Deliver, Tick}
+use Rattle.peer_messages.specs.declared.event.What.TheVariants.{Client, Deliver, Alive, Tick}
 use Rattle.peer_messages.specs.declared.chronicle.Entry.{Entry}
 use Rattle.peer_messages.specs.declared.outcome.Outbound.{Outbound}
 use Rattle.peer_messages.specs.declared.outcome.Outputs.{Outputs}
 use Rattle.peer_messages.specs.declared.setting.Setting.{Setting}
 use Rattle.node_steps.specs.State.{NodeState}
-use Rattle.node_steps.specs.Acts.{Act, Rises, Hears, Asks, Deed, Chain, request_at}
+use Rattle.node_steps.specs.Acts.{Act, Rises, Hears, Asks, Marks, Deed, Chain, request_at}
 
 -- a clock's reading above 2 ^ 62 counts as that
 abbrev pub reading : Event → ℕ
@@ -22,6 +22,7 @@ reading e = min e.clock (2 ^ 62)
 abbrev pub message_time : What → ℕ
 message_time (Client ask) = 0
 message_time (Deliver m) = m.time + 1
+message_time (Alive peer up) = 0
 message_time Tick = 0
 
 -- the node's time plus 1, the message's plus 1, or the clock's reading, whichever is the latest
@@ -51,15 +52,21 @@ message_fits c me m = (m.upto == me) && (not (m.from == me) && (nat_lt m.from (l
 abbrev pub heard_matter : Setting → ℕ → Message → List Act
 heard_matter c me m = if message_fits c me m then Hears (record { from = m.from; request = m.request; body = m.body }) ∷ [] else []
 
+-- a mark fits that is of another node of the ring
+abbrev pub mark_fits : Setting → ℕ → ℕ → Bool
+mark_fits c me peer = not (peer == me) && nat_lt peer (length c.ring)
+
 -- the event's own matter
 abbrev pub matter_of : Setting → ℕ → What → List Act
 matter_of c me (Client ask) = Asks ask ∷ []
 matter_of c me (Deliver m) = heard_matter c me m
+matter_of c me (Alive peer up) = if mark_fits c me peer then Marks peer up ∷ [] else []
 matter_of c me Tick = []
 
 abbrev pub started_by : ℕ → ℕ → What → Option ReqId
 started_by me time (Client ask) = Some (request_at me time)
 started_by me time (Deliver m) = None
+started_by me time (Alive peer up) = None
 started_by me time Tick = None
 
 abbrev pub message_of : ℕ → ℕ → Outbound → Message

@@ -23,7 +23,21 @@ pub enum Invalid {
 #[derive(Clone, Copy, Debug, PartialEq, Eq)]
 pub enum Refusal {
     /// How many replicas are needed, and how many are alive.
-    Unavailable { required: u8, alive: u8 },
+    Unavailable {
+        required: u8,
+        alive: u8,
+    },
+    /// At its deadline a write had so many acknowledgements of distinct replicas, and waited for so many.
+    WriteTimeout {
+        received: u8,
+        blockfor: u8,
+    },
+    /// At its deadline a read had so many replies of distinct replicas, waited for so many, and had data of one or not.
+    ReadTimeout {
+        received: u8,
+        blockfor: u8,
+        data: bool,
+    },
     Overloaded,
     Invalid(Invalid),
 }

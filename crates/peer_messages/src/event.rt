@@ -2,7 +2,7 @@
 
 use crate::message::Message;
 use changes::{DraftMutation, Query};
-use cs_base::{Level, Micros, Text};
+use cs_base::{Level, Micros, NodeId, Text};
 use statement_plan::{Columns, Fault};
 
 /// What a statement asks for.
@@ -30,6 +30,8 @@ pub enum What {
     Client(Ask),
     /// A message comes.
     Deliver(Message),
+    /// Another node is marked alive, or else dead.
+    Alive(NodeId, bool),
     /// Nothing but time.
     Tick,
 }

@@ -26,13 +26,13 @@ use Rattle.peer_messages.specs.declared.chronicle.Entry.TheVariants.{Submitted, 
 use Rattle.peer_messages.specs.declared.chronicle.Refusal.{Refusal}
 use Rattle.peer_messages.specs.declared.outcome.Outbound.{Outbound}
 use Rattle.peer_messages.specs.declared.setting.Setting.{Setting}
-use Rattle.peer_messages.specs.Settings.{replicas_of}
-use Rattle.node_steps.specs.State.{NodeState, OpenWrite, OpenRead, Holds}
+use Rattle.peer_messages.specs.Settings.{marked, alive_at}
+use Rattle.node_steps.specs.State.{NodeState, OpenWrite, OpenRead, changes_of, Holds}
 use Rattle.node_steps.specs.Effects.{Effects, nothing, effects_of, outbound, send_to}
 use Rattle.node_steps.specs.Writes.{start_write, started_write}
 use Rattle.node_steps.specs.Reads.{start_read, started_read}
 use Rattle.node_steps.specs.Requests.{Begins, BeginsOrRefuses}
-use Rattle.node_steps.specs.Acts.{Act, Rises, Asks, Does}
+use Rattle.node_steps.specs.Acts.{Act, Rises, Asks, Marks, Does}
 use Rattle.cluster_runs.specs.Chronicle.{submission_of}
 use Rattle.cluster_runs.specs.Trace.{Scene, MayTake}
 use Rattle.read_consistency.proofs.Facts.{WasBegun, Reaches, IsOf, BodyOk, WriteOk, ReadOk, NodeOk, Explains}
@@ -51,7 +51,7 @@ request_exact a b e = let both = then_equal (nat_cmp a.node b.node) _ e in reque
 
 pub same_node : (w : Scene) (s r : NodeState) → r.content ≡ s.content → r.writes ≡ s.writes → r.reads ≡ s.reads → NodeOk w s → NodeOk w r
 same_node w s r content writes reads h = record {
-  of = subst (λ cs. (p : Partition) (x : Held) → Holds cs p x → IsOf w.chronicle p (Reaches cs p) x) (sym content) h.of;
+  of = subst (λ cs. (p : Partition) (x : Held) → Holds (changes_of cs) p x → IsOf w.chronicle p (Reaches (changes_of cs) p) x) (sym content) h.of;
   writes = λ id o c. h.writes id o (subst (λ (es : List (ReqId × OpenWrite)). Contains es (id, o)) writes c);
   reads = λ id o c. h.reads id o (subst (λ (es : List (ReqId × OpenRead)). Contains es (id, o)) reads c);
 }
@@ -59,16 +59,26 @@ same_node w s r content writes reads h = record {
 pub none_sent : (w : Scene) (k : ℕ) (x : Outbound) → Contains [] x → BodyOk w k x
 none_sent w k x h = absurd (contains_nil x h)
 
--- ---- time rises, and a request is refused
+-- a move by which a node keeps all and tells nothing
+pub same_case : (c : Setting) (w : Scene) (k : ℕ) (a : Act) (s r : NodeState) → Explains c w → slice_get w.nodes k ≡ Some s → r.content ≡ s.content → r.writes ≡ s.writes → r.reads ≡ s.reads → Explains c (next w k a s nothing r)
+same_case c w k a s r e at content writes reads =
+    let more : (p : Partition) (x : Held) → Reaches (changes_of s.content) p x → Reaches (changes_of r.content) p x = λ p x h. subst (λ cs. Reaches (changes_of cs) p x) (sym content) h in
+    let w' = quietly w k a s r [] in
+    let g = quietly_grows w k a s r [] at more in
+    explains_quietly c w k a s r [] e at more (same_node w' s r content writes reads (node_on c w w' g e s (e.nodes k s at))) (none_sent w' k)
+
+-- ---- time rises, a node is marked, and a request is refused
 
 pub rises_case : (c : Setting) (w : Scene) (k t : ℕ) (s s' : NodeState) (o : Effects) → Explains c w → slice_get w.nodes k ≡ Some s → Does c k s (Rises t) o s' → Explains c (next w k (Rises t) s o s')
 rises_case c w k t s s' o e at (later, is, same) =
-    let r : NodeState = record s { time = t } in
-    let w' = quietly w k (Rises t) s r [] in
-    let g = quietly_grows w k (Rises t) s r [] at (λ p x h. h) in
     subst (λ (x : Effects). Explains c (next w k (Rises t) s x s')) (sym is)
-    (subst (λ (x : NodeState). Explains c (next w k (Rises t) s nothing x)) (sym same)
-    (explains_quietly c w k (Rises t) s r [] e at (λ p x h. h) (same_node w' s r refl refl refl (node_on c w w' g e s (e.nodes k s at))) (none_sent w' k)))
+    (subst (λ (x : NodeState). Explains c (next w k (Rises t) s nothing x)) (sym same) (same_case c w k (Rises t) s (record s { time = t }) e at refl refl refl))
+
+pub marks_case : (c : Setting) (w : Scene) (k peer : ℕ) (up : Bool) (s s' : NodeState) (o : Effects) → Explains c w → slice_get w.nodes k ≡ Some s → Does c k s (Marks peer up) o s' → Explains c (next w k (Marks peer up) s o s')
+marks_case c w k peer up s s' o e at (is, same) =
+    subst (λ (x : Effects). Explains c (next w k (Marks peer up) s x s')) (sym is)
+    (subst (λ (x : NodeState). Explains c (next w k (Marks peer up) s nothing x)) (sym same)
+    (same_case c w k (Marks peer up) s (record s { down = marked s.down peer up }) e at refl refl refl))
 
 refused_case : (c : Setting) (w : Scene) (k : ℕ) (a : Act) (id : ReqId) (r : Refusal) (s s' : NodeState) (o : Effects) → Explains c w → slice_get w.nodes k ≡ Some s → o ≡ record { sends = []; entries = Refused id r ∷ [] } → s' ≡ s
     → Explains c (next w k a s o s')
@@ -92,17 +102,17 @@ used_case c w k a id keyspace s s' o e at is same =
 
 write_case : (c : Setting) (w : Scene) (k : ℕ) (ask : Ask) (s : NodeState) (d : DraftMutation) (l : Level) → Explains c w → slice_get w.nodes k ≡ Some s → MayTake w.past k s (Asks ask)
     → let id : ReqId = record { node = k; time = s.time } in
-    Explains c (next w k (Asks ask) s (effects_of (start_write c id d)) (record s { writes = insert_entry request_cmp s.writes id (started_write l d) }))
+    Explains c (next w k (Asks ask) s (effects_of (start_write c s.down id d)) (record s { writes = insert_entry request_cmp s.writes id (started_write l d) }))
 write_case c w k ask s d l e at may =
     let id : ReqId = record { node = k; time = s.time } in
     let m = mutation_of id d in
-    let ks = replicas_of c d.partition in
+    let ks = alive_at c s.down d.partition in
     let r : NodeState = record s { writes = insert_entry request_cmp s.writes id (started_write l d) } in
     let w' = telling w k (Asks ask) s r (send_to id (Write m) ks) (Submitted id m) in
     let new : WasBegun w.past id → ⊥ = λ b. may b.0 b.1 b.2 in
     let g = telling_grows w k (Asks ask) s r (send_to id (Write m) ks) (Submitted id m) at (λ p x h. h) new in
     let old = node_on c w w' g e s (e.nodes k s at) in
-    let begun : WasBegun w'.past id = (deed_of k (Asks ask) s r (effects_of (start_write c id d)), contains_here _ w.past, (refl, refl, (ask, refl))) in
+    let begun : WasBegun w'.past id = (deed_of k (Asks ask) s r (effects_of (start_write c s.down id d)), contains_here _ w.past, (refl, refl, (ask, refl))) in
     let submission : submission_of w'.chronicle id ≡ Some m = ap (λ (b : Bool). if b then Some m else submission_of w.chronicle id) (itself id) in
     let fresh : WriteOk w' id (started_write l d) = record {
       begun = begun;
@@ -125,16 +135,16 @@ write_case c w k ask s d l e at may =
 
 read_case : (c : Setting) (w : Scene) (k : ℕ) (ask : Ask) (s : NodeState) (q : Query) (l : Level) (v : Columns) → Explains c w → slice_get w.nodes k ≡ Some s → MayTake w.past k s (Asks ask)
     → let id : ReqId = record { node = k; time = s.time } in
-    Explains c (next w k (Asks ask) s (effects_of (start_read c id l q v)) (record s { reads = insert_entry request_cmp s.reads id (started_read l q) }))
+    Explains c (next w k (Asks ask) s (effects_of (start_read c s.down id l q v)) (record s { reads = insert_entry request_cmp s.reads id (started_read l q) }))
 read_case c w k ask s q l v e at may =
     let id : ReqId = record { node = k; time = s.time } in
-    let ks = replicas_of c q.partition in
+    let ks = alive_at c s.down q.partition in
     let r : NodeState = record s { reads = insert_entry request_cmp s.reads id (started_read l q) } in
     let w' = telling w k (Asks ask) s r (send_to id (Read q) ks) (Began id q l v) in
     let new : WasBegun w.past id → ⊥ = λ b. may b.0 b.1 b.2 in
     let g = telling_grows w k (Asks ask) s r (send_to id (Read q) ks) (Began id q l v) at (λ p x h. h) new in
     let old = node_on c w w' g e s (e.nodes k s at) in
-    let begun : WasBegun w'.past id = (deed_of k (Asks ask) s r (effects_of (start_read c id l q v)), contains_here _ w.past, (refl, refl, (ask, refl))) in
+    let begun : WasBegun w'.past id = (deed_of k (Asks ask) s r (effects_of (start_read c s.down id l q v)), contains_here _ w.past, (refl, refl, (ask, refl))) in
     let only : (p : Query) (n : Level) (u : Columns) → Contains w'.chronicle (Began id p n u) → (p ≡ q) × (n ≡ l) =
     λ p n u h. elim (contains_cases (Began id q l v) w.chronicle (Began id p n u) h) [
       | inl here ↦ let is : Began id q l v ≡ Began id p n u = here in (cc, cc)
@@ -168,10 +178,10 @@ begins_case : (c : Setting) (w : Scene) (k : ℕ) (ask : Ask) (p : Plan) (l : Le
     → Begins c (record { node = k; time = s.time }) p l s o s' → Explains c (next w k (Asks ask) s o s')
 begins_case c w k ask (plan.Write d) l s s' o e at may (is, same) =
     subst (λ (x : Effects). Explains c (next w k (Asks ask) s x s')) (sym is)
-    (subst (λ (x : NodeState). Explains c (next w k (Asks ask) s (effects_of (start_write c (record { node = k; time = s.time }) d)) x)) (sym same) (write_case c w k ask s d l e at may))
+    (subst (λ (x : NodeState). Explains c (next w k (Asks ask) s (effects_of (start_write c s.down (record { node = k; time = s.time }) d)) x)) (sym same) (write_case c w k ask s d l e at may))
 begins_case c w k ask (plan.Read q v) l s s' o e at may (is, same) =
     subst (λ (x : Effects). Explains c (next w k (Asks ask) s x s')) (sym is)
-    (subst (λ (x : NodeState). Explains c (next w k (Asks ask) s (effects_of (start_read c (record { node = k; time = s.time }) l q v)) x)) (sym same) (read_case c w k ask s q l v e at may))
+    (subst (λ (x : NodeState). Explains c (next w k (Asks ask) s (effects_of (start_read c s.down (record { node = k; time = s.time }) l q v)) x)) (sym same) (read_case c w k ask s q l v e at may))
 begins_case c w k ask (plan.Use keyspace) l s s' o e at may (is, same) = used_case c w k (Asks ask) (record { node = k; time = s.time }) keyspace s s' o e at is same
 begins_case c w k ask (plan.Invalid fault) l s s' o e at may h = absurd h
 

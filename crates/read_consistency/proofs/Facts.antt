@@ -20,7 +20,7 @@ use Rattle.peer_messages.specs.declared.chronicle.Entry.TheVariants.{Asked, Subm
 use Rattle.peer_messages.specs.declared.outcome.Outbound.{Outbound}
 use Rattle.peer_messages.specs.declared.setting.Setting.{Setting}
 use Rattle.peer_messages.specs.Settings.{replicas_of, needed}
-use Rattle.node_steps.specs.State.{NodeState, OpenWrite, OpenRead, Holds}
+use Rattle.node_steps.specs.State.{NodeState, OpenWrite, OpenRead, changes_of, Holds}
 use Rattle.node_steps.specs.Acts.{Deed}
 use Rattle.cluster_runs.specs.Chronicle.{submission_of, StandsBefore}
 use Rattle.cluster_runs.specs.Trace.{Scene, IsAskAt}
@@ -36,7 +36,7 @@ Reaches content p x = Holds content p x ⊎ ((y : Held) × Holds content p y × 
 
 -- node j reaches all that was submitted under this id
 abbrev pub HasAll : Scene → ℕ → ReqId → Type 0
-HasAll w j id = (s : NodeState) → slice_get w.nodes j ≡ Some s → (m : Mutation) → submission_of w.chronicle id ≡ Some m → (x : Held) → Contains m.changes x → Reaches s.content m.partition x
+HasAll w j id = (s : NodeState) → slice_get w.nodes j ≡ Some s → (m : Mutation) → submission_of w.chronicle id ≡ Some m → (x : Held) → Contains m.changes x → Reaches (changes_of s.content) m.partition x
 
 -- whatever read began under this id asks this
 abbrev pub IsQueryOf : List Entry → ReqId → Query → Type 0
@@ -97,7 +97,7 @@ pub record ReadOk (w : Scene) (id : ReqId) (o : OpenRead) : Type 0 where
   pub is : (q : Query) (l : Level) (v : Columns) → Contains w.chronicle (Began id q l v) → ReadIs w id o q l
 
 pub record NodeOk (w : Scene) (s : NodeState) : Type 0 where
-  pub of : (p : Partition) (x : Held) → Holds s.content p x → IsOf w.chronicle p (Reaches s.content p) x
+  pub of : (p : Partition) (x : Held) → Holds (changes_of s.content) p x → IsOf w.chronicle p (Reaches (changes_of s.content) p) x
   pub writes : (id : ReqId) (o : OpenWrite) → Contains s.writes (id, o) → WriteOk w id o
   pub reads : (id : ReqId) (o : OpenRead) → Contains s.reads (id, o) → ReadOk w id o
 

@@ -18,7 +18,7 @@ use Rattle.peer_messages.specs.declared.chronicle.Entry.{Entry}
 use Rattle.peer_messages.specs.declared.chronicle.Entry.TheVariants.{Asked, Submitted, Acked, Refused, Used, Began, Rows, Time, Turned}
 use Rattle.peer_messages.specs.declared.outcome.Outbound.{Outbound}
 use Rattle.peer_messages.specs.declared.setting.Setting.{Setting}
-use Rattle.node_steps.specs.State.{NodeState, OpenWrite, OpenRead}
+use Rattle.node_steps.specs.State.{NodeState, OpenWrite, OpenRead, changes_of}
 use Rattle.node_steps.specs.Acts.{Deed}
 use Rattle.cluster_runs.specs.Chronicle.{submission_of, StandsBefore}
 use Rattle.cluster_runs.specs.Trace.{Scene}
@@ -30,7 +30,7 @@ pub record Grows (w w' : Scene) : Type 0 where
   pub submissions : (id : ReqId) → WasBegun w.past id → submission_of w'.chronicle id ≡ submission_of w.chronicle id
   pub begins : (id : ReqId) (q : Query) (l : Level) (v : Columns) → WasBegun w.past id → Contains w'.chronicle (Began id q l v) → Contains w.chronicle (Began id q l v)
   pub starts : (id : ReqId) (e : Entry) → WasBegun w.past id → StandsBefore w'.chronicle id e → StandsBefore w.chronicle id e
-  pub nodes : (j : ℕ) (s' : NodeState) → slice_get w'.nodes j ≡ Some s' → (s : NodeState) × (slice_get w.nodes j ≡ Some s) × ((p : Partition) (x : Held) → Reaches s.content p x → Reaches s'.content p x)
+  pub nodes : (j : ℕ) (s' : NodeState) → slice_get w'.nodes j ≡ Some s' → (s : NodeState) × (slice_get w.nodes j ≡ Some s) × ((p : Partition) (x : Held) → Reaches (changes_of s.content) p x → Reaches (changes_of s'.content) p x)
 
 pub begun_on : (w w' : Scene) → Grows w w' → (id : ReqId) → WasBegun w.past id → WasBegun w'.past id
 begun_on w w' g id b = (b.0, g.past b.0 b.1, b.2)

@@ -28,7 +28,7 @@ use Rattle.peer_messages.specs.declared.outcome.Move.{Move}
 use Rattle.peer_messages.specs.declared.setting.Setting.{Setting}
 use Rattle.peer_messages.specs.Settings.{replicas_of, needed, with_heard}
 use Rattle.peer_messages.specs.Moves.{quiet, tells}
-use Rattle.node_steps.specs.State.{NodeState, OpenWrite, OpenRead}
+use Rattle.node_steps.specs.State.{NodeState, OpenWrite, OpenRead, changes_of}
 use Rattle.node_steps.specs.Effects.{Effects, nothing, effects_of, outbound, send_to, open_at, after_move, Takes}
 use Rattle.node_steps.specs.Writes.{HearsAck}
 use Rattle.node_steps.specs.Reads.{is_stray, TellsRows, MergesReply, HearsReply}
@@ -42,7 +42,7 @@ use Rattle.read_consistency.proofs.Grows.{begun_on, of_on, stands_in, write_on, 
 use Rattle.read_consistency.proofs.Reach.{grown, taken, source, slice_reached, merge_first, merge_second, merge_answers}
 use Rattle.read_consistency.proofs.Answer.{right_answer}
 use Rattle.read_consistency.proofs.Step.{quietly, telling, quietly_grows, telling_grows, explains_quietly, explains_telling}
-use Rattle.read_consistency.proofs.Cases.{next, some_one, request_exact, same_node, none_sent}
+use Rattle.read_consistency.proofs.Cases.{next, some_one, request_exact, same_case, none_sent}
 
 -- what comes to a node is known
 pub record Known (w : Scene) (m : Incoming) : Type 0 where
@@ -54,22 +54,14 @@ known c w k m e made =
     let ok = e.bodies made.deed made.there _ made.made in
     record { begun = ok.begun; is = subst (λ (j : ℕ). BodyIs w j m.request m.body) made.node ok.is }
 
--- a move by which a node keeps all and tells nothing
-same_case : (c : Setting) (w : Scene) (k : ℕ) (a : Act) (s r : NodeState) → Explains c w → slice_get w.nodes k ≡ Some s → r.content ≡ s.content → r.writes ≡ s.writes → r.reads ≡ s.reads → Explains c (next w k a s nothing r)
-same_case c w k a s r e at content writes reads =
-    let more : (p : Partition) (x : Held) → Reaches s.content p x → Reaches r.content p x = λ p x h. subst (λ cs. Reaches cs p x) (sym content) h in
-    let w' = quietly w k a s r [] in
-    let g = quietly_grows w k a s r [] at more in
-    explains_quietly c w k a s r [] e at more (same_node w' s r content writes reads (node_on c w w' g e s (e.nodes k s at))) (none_sent w' k)
-
 -- ---- a write comes
 
 pub write_heard : (c : Setting) (w : Scene) (k from : ℕ) (id : ReqId) (m : Mutation) (s s' : NodeState) (o : Effects) → Explains c w → slice_get w.nodes k ≡ Some s → (a : Act) → WasBegun w.past id → submission_of w.chronicle id ≡ Some m
     → HearsBody c (record { from = from; request = id }) (Write m) s o s' → Explains c (next w k a s o s')
-write_heard c w k from id m s s' o e at a begun submission (t, is, same) =
+write_heard c w k from id m s s' o e at a begun submission (t, arrive, is, same) =
     let r : NodeState = record s { content = s'.content } in
     let sends = send_to id WriteAck (from ∷ []) in
-    let more : (p : Partition) (x : Held) → Reaches s.content p x → Reaches r.content p x = grown s.content s'.content m.partition m.changes t in
+    let more : (p : Partition) (x : Held) → Reaches (changes_of s.content) p x → Reaches (changes_of r.content) p x = grown (changes_of s.content) (changes_of s'.content) m.partition m.changes t in
     let w' = quietly w k a s r sends in
     let g = quietly_grows w k a s r sends at more in
     let old = node_on c w w' g e s (e.nodes k s at) in
@@ -77,14 +69,14 @@ write_heard c w k from id m s s' o e at a begun submission (t, is, same) =
     λ st there n sub y in_n.
     let one : n ≡ m = some_one (sym sub ∙ submission) in
     let mine : st ≡ r = elim (get_set w.nodes k r k st there) [ inl here ↦ here.1 | inr away ↦ absurd (away.0 refl) ] in
-    subst (λ (v : NodeState). Reaches v.content n.partition y) (sym mine)
-    (subst (λ (v : Mutation). Reaches r.content v.partition y) (sym one) (taken s.content s'.content m.partition m.changes t y (subst (λ (v : Mutation). Contains v.changes y) one in_n)))
+    subst (λ (v : NodeState). Reaches (changes_of v.content) n.partition y) (sym mine)
+    (subst (λ (v : Mutation). Reaches (changes_of r.content) v.partition y) (sym one) (taken (changes_of s.content) (changes_of s'.content) m.partition m.changes t y (subst (λ (v : Mutation). Contains v.changes y) one in_n)))
     in
     subst (λ (x : Effects). Explains c (next w k a s x s')) (sym is)
     (subst (λ (x : NodeState). Explains c (next w k a s (replies (record { from = from; request = id }) WriteAck) x)) (sym same)
     (explains_quietly c w k a s r sends e at more
     (record {
-      of = λ p x held. elim (source s.content s'.content m.partition m.changes t p x held) [
+      of = λ p x held. elim (source (changes_of s.content) (changes_of s'.content) m.partition m.changes t p x held) [
         | inl before ↦ of_on w w' g p _ _ x (λ y h. more p y h) ((e.nodes k s at).of p x before)
         | inr (here, there) ↦ record {
           request = id;
@@ -92,7 +84,7 @@ write_heard c w k from id m s s' o e at a begun submission (t, is, same) =
           submitted = submission_in w.chronicle id m submission;
           partition = sym here;
           there = there;
-          beside = λ y c' b. subst (λ (q : Partition). Reaches r.content q y) (sym here) (taken s.content s'.content m.partition m.changes t y c');
+          beside = λ y c' b. subst (λ (q : Partition). Reaches (changes_of r.content) q y) (sym here) (taken (changes_of s.content) (changes_of s'.content) m.partition m.changes t y c');
         }
       ];
       writes = old.writes;
@@ -227,13 +219,13 @@ read_heard c w k from id q s s' o e at a begun query (part, answer, is, same) =
     let g = quietly_grows w k a s s sends at (λ p x h. h) in
     let node = e.nodes k s at in
     let answers : Answers w'.chronicle q part = record {
-      of = λ x c'. of_on w w' g q.partition _ _ x (λ y h inside. slice_reached s.content q part answer y inside h) (node.of q.partition x ((answer x).0 c').0);
+      of = λ x c'. of_on w w' g q.partition _ _ x (λ y h inside. slice_reached (changes_of s.content) q part answer y inside h) (node.of q.partition x ((answer x).0 c').0);
       inside = λ x c'. ((answer x).0 c').1;
     } in
     let sees : Sees w'.chronicle id k q part =
     λ i l heard before there m sub in_part y in_m inside.
     let acked = e.entries (Acked i l heard) (stands_in w.chronicle id (Acked i l heard) before) in
-    slice_reached s.content q part answer y inside (subst (λ (p : Partition). Reaches s.content p y) in_part (acked.has k there s at m sub y in_m))
+    slice_reached (changes_of s.content) q part answer y inside (subst (λ (p : Partition). Reaches (changes_of s.content) p y) in_part (acked.has k there s at m sub y in_m))
     in
     let reply : ReplyOk w' k id part =
     λ p n u there. (subst (λ (v : Query). Answers w'.chronicle v part) (sym (query p n u there)) answers, subst (λ (v : Query). Sees w'.chronicle id k v part) (sym (query p n u there)) sees) in

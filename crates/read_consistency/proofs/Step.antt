@@ -6,7 +6,7 @@ use Rattle.changes.specs.declared.Held.{Held}
 use Rattle.peer_messages.specs.declared.chronicle.Entry.{Entry}
 use Rattle.peer_messages.specs.declared.outcome.Outbound.{Outbound}
 use Rattle.peer_messages.specs.declared.setting.Setting.{Setting}
-use Rattle.node_steps.specs.State.{NodeState}
+use Rattle.node_steps.specs.State.{NodeState, changes_of}
 use Rattle.node_steps.specs.Effects.{Effects}
 use Rattle.node_steps.specs.Acts.{Act, Deed}
 use Rattle.cluster_runs.specs.Trace.{Scene}
@@ -28,7 +28,7 @@ abbrev pub telling : Scene → ℕ → Act → NodeState → NodeState → List 
 telling w k a s s' sends e = record { nodes = slice_set w.nodes k s'; chronicle = e ∷ w.chronicle; past = deed_of k a s s' (record { sends = sends; entries = e ∷ [] }) ∷ w.past }
 
 abbrev Grown : NodeState → NodeState → Type 0
-Grown s s' = (p : Partition) (x : Held) → Reaches s.content p x → Reaches s'.content p x
+Grown s s' = (p : Partition) (x : Held) → Reaches (changes_of s.content) p x → Reaches (changes_of s'.content) p x
 
 nodes_grow : (nodes : List NodeState) (k : ℕ) (s s' : NodeState) → slice_get nodes k ≡ Some s → Grown s s' → (j : ℕ) (r' : NodeState) → slice_get (slice_set nodes k s') j ≡ Some r'
     → (r : NodeState) × (slice_get nodes j ≡ Some r) × Grown r r'

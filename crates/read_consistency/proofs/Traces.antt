@@ -9,7 +9,7 @@ use Rattle.peer_messages.specs.declared.setting.Setting.{Setting}
 use Rattle.node_steps.specs.State.{NodeState, fresh_node}
 use Rattle.node_steps.specs.Effects.{Effects}
 use Rattle.node_steps.specs.Requests.{refusal_of}
-use Rattle.node_steps.specs.Acts.{Act, Rises, Hears, Asks, Deed, Does, HearsBody}
+use Rattle.node_steps.specs.Acts.{Act, Rises, Hears, Asks, Marks, Deed, Does, HearsBody}
 use Rattle.cluster_runs.specs.World.{World}
 use Rattle.cluster_runs.specs.Run.{Run}
 use Rattle.cluster_runs.specs.Trace.{Scene, scene_of, MayTake, Move, Trace, IsFree}
@@ -21,7 +21,7 @@ use Rattle.change_laws.proofs.Members.{contains_nil}
 use Rattle.read_consistency.specs.ReadRight.{ReadRight}
 use Rattle.read_consistency.proofs.Facts.{WasBegun, BodyIs, NodeOk, Explains}
 use Rattle.read_consistency.proofs.Step.{explains_entry}
-use Rattle.read_consistency.proofs.Cases.{next, rises_case, asks_case}
+use Rattle.read_consistency.proofs.Cases.{next, rises_case, marks_case, asks_case}
 use Rattle.read_consistency.proofs.Hearing.{known, write_heard, ack_heard, read_heard, reply_heard}
 
 body_case : (c : Setting) (w : Scene) (k from : ℕ) (id : ReqId) (b : Body) (a : Act) (s s' : NodeState) (o : Effects) → Explains c w → slice_get w.nodes k ≡ Some s → WasBegun w.past id → BodyIs w from id b
@@ -34,7 +34,8 @@ body_case c w k from id (ReadReply content) a s s' o e at was is h = reply_heard
 move_case : (c : Setting) (w : Scene) (k : ℕ) (a : Act) (s s' : NodeState) (o : Effects) → Explains c w → slice_get w.nodes k ≡ Some s → MayTake w.past k s a → Does c k s a o s' → Explains c (next w k a s o s')
 move_case c w k (Rises t) s s' o e at may h = rises_case c w k t s s' o e at h
 move_case c w k (Hears m) s s' o e at may h = let was = known c w k m e may in body_case c w k m.from m.request m.body (Hears m) s s' o e at was.begun was.is h
-move_case c w k (Asks ask) s s' o e at may h = asks_case c w k ask (refusal_of c ask.plan ask.level) s s' o e at may h
+move_case c w k (Asks ask) s s' o e at may h = asks_case c w k ask (refusal_of c s.down ask.plan ask.level) s s' o e at may h
+move_case c w k (Marks peer up) s s' o e at may h = marks_case c w k peer up s s' o e at h
 
 fresh_ok : (w : Scene) → NodeOk w fresh_node
 fresh_ok w = record {

@@ -1,4 +1,5 @@
-//! A plain read at its coordinator, which asks every replica and answers from the merge of the replies of distinct ones.
+//! A plain read at its coordinator, which asks every replica that is alive, and answers from the merge of the replies of
+//! distinct ones until its deadline.
 //! After Cassandra's documentation, "Dynamo: Tunable Consistency".
 #![tactic(auto)]
 
@@ -8,13 +9,14 @@ ghost use Rattle.changes.specs.Contents.{IsMergeOf};
 ghost use Rattle.peer_messages.specs.declared.message.Body.TheVariants.{Read};
 ghost use Rattle.peer_messages.specs.Settings.{replicas_of, needed};
 ghost use Rattle.node_steps.specs.Effects.{outbound, send_to};
-ghost use Rattle.node_steps.specs.Reads.{start_read, started_read, is_stray, TellsRows, CountsReply, HearsReply};
+ghost use Rattle.node_steps.specs.Reads.{start_read, started_read, is_stray, TellsRows, CountsReply, HearsReply, read_at};
 
 use cell_merge::Content;
 use changes::Query;
-use cs_base::{Items, Level, NodeId, ReqId};
+use cs_base::{Items, Level, Micros, NodeId, ReqId};
 use peer_messages::{
-    Body, Entry, Grounds, Move, NodeIds, Outbound, Sends, Setting, copy_nodes, heard_of, is_in,
+    Body, Entry, Grounds, Move, NodeIds, Outbound, Refusal, Sends, Setting, copy_nodes, heard_of,
+    is_before_deadline, is_in, nodes_up,
 };
 use row_select::shown;
 use statement_plan::Columns;
@@ -75,22 +77,24 @@ fn ask_all(
     Ok(sends)
 }
 
-/// What begins a read: it is entered, and each replica is asked.
+/// What begins a read: it is entered, and each replica that is not marked down is asked.
 pub fn opening(
     alloc: Global,
     setting: &Setting,
+    down: &[NodeId],
     request: ReqId,
     level: Level,
     query: &Query,
     columns: Columns,
 ) -> Result<Move, AllocError>
-    ensures { IfOk result (λ turn. turn ≡ start_read setting.now request level query.now columns) }
+    ensures { IfOk result (λ turn. turn ≡ start_read setting.now down.now request level query.now columns) }
 {
     let replicas = setting.replicas(&query.partition);
+    let alive = nodes_up(alloc, replicas.as_slice(), down)?;
     let mut entries = Items::new(alloc);
     entries.push(Entry::Began(request, query.copy(alloc)?, level, columns))?;
     Ok(Move {
-        sends: ask_all(alloc, request, query, replicas.as_slice())?,
+        sends: ask_all(alloc, request, query, alive.as_slice())?,
         entries,
         ended: false,
     })
@@ -187,5 +191,38 @@ impl ReadCoord {
         }
         self.keep(gathered);
         Ok(Move::quiet(alloc))
+    }
+
+    /// How many replicas have replied.
+    fn received(&self, setting: &Setting) -> u8
+        ensures { result ≡ heard_of_count (replicas_of setting.now self.now.query.partition) self.now.heard }
+    {
+        let replicas = setting.replicas(&self.query.partition);
+        // no more than the replicas, which are seven at most
+        heard_of(replicas.as_slice(), self.heard.as_slice()).min(replicas.len()) as u8
+    }
+
+    /// What the read is told at this time: nothing before its deadline, 5 seconds after its start, and from then on how
+    /// many replicas have replied, and whether any has.
+    pub fn at_time(
+        &self,
+        alloc: Global,
+        setting: &Setting,
+        request: ReqId,
+        time: Micros,
+    ) -> Result<Move, AllocError>
+        ensures { IfOk result (λ turn. turn ≡ read_at setting.now request time self.now) }
+    {
+        if is_before_deadline(&request, time) {
+            return Ok(Move::quiet(alloc));
+        }
+        let received = self.received(setting);
+        let blockfor = setting.needed(self.level, &self.query.partition);
+        let refusal = Refusal::ReadTimeout {
+            received,
+            blockfor,
+            data: received > 0,
+        };
+        Move::tells(alloc, Entry::Refused(request, refusal))
     }
 }

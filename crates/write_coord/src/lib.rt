@@ -1,18 +1,21 @@
-//! A plain write at its coordinator, which sends it to every replica and counts the acknowledgements of distinct ones.
+//! A plain write at its coordinator, which sends it to every replica that is alive and counts the acknowledgements of
+//! distinct ones until its deadline.
 //! After Cassandra's documentation, "Dynamo: Tunable Consistency".
 #![tactic(auto)]
 
 ghost use Rattle.std.specs.Prelude.{◌≡◌, ◌<◌, ◌^◌, IfOk, OnErr};
+ghost use Rattle.cs_base.specs.Quorums.{heard_of as heard_of_count};
 ghost use Rattle.peer_messages.specs.Settings.{replicas_of};
 ghost use Rattle.changes.specs.Drafts.{mutation_of};
 ghost use Rattle.peer_messages.specs.declared.message.Body.TheVariants.{Write};
 ghost use Rattle.node_steps.specs.Effects.{outbound, send_to};
-ghost use Rattle.node_steps.specs.Writes.{start_write, started_write, CountsAck, HearsAck};
+ghost use Rattle.node_steps.specs.Writes.{start_write, started_write, CountsAck, HearsAck, write_at};
 
 use changes::{DraftMutation, Partition};
-use cs_base::{Items, Level, NodeId, ReqId};
+use cs_base::{Items, Level, Micros, NodeId, ReqId};
 use peer_messages::{
-    Body, Entry, Move, NodeIds, Outbound, Sends, Setting, copy_nodes, heard_of, with_heard,
+    Body, Entry, Move, NodeIds, Outbound, Refusal, Sends, Setting, copy_nodes, heard_of,
+    is_before_deadline, nodes_up, with_heard,
 };
 use std::alloc::{AllocError, Global};
 use std::marker::Model;
@@ -69,21 +72,23 @@ fn write_to_all(
     Ok(sends)
 }
 
-/// What begins a write: it is submitted, and goes to each replica.
+/// What begins a write: it is submitted, and goes to each replica that is not marked down.
 pub fn opening(
     alloc: Global,
     setting: &Setting,
+    down: &[NodeId],
     request: ReqId,
     draft: &DraftMutation,
 ) -> Result<Move, AllocError>
     requires { request.time < 2 ^ 63 }
-    ensures { IfOk result (λ turn. turn ≡ start_write setting.now request draft.now) }
+    ensures { IfOk result (λ turn. turn ≡ start_write setting.now down.now request draft.now) }
 {
     let replicas = setting.replicas(&draft.partition);
+    let alive = nodes_up(alloc, replicas.as_slice(), down)?;
     let mut entries = Items::new(alloc);
     entries.push(Entry::Submitted(request, draft.mutation(alloc, request)?))?;
     Ok(Move {
-        sends: write_to_all(alloc, request, draft, replicas.as_slice())?,
+        sends: write_to_all(alloc, request, draft, alive.as_slice())?,
         entries,
         ended: false,
     })
@@ -141,5 +146,34 @@ impl WriteCoord {
         let turn = self.count(alloc, setting, request, &heard)?;
         self.heard = heard;
         Ok(turn)
+    }
+
+    /// How many replicas have acknowledged the write.
+    fn received(&self, setting: &Setting) -> u8
+        ensures { result ≡ heard_of_count (replicas_of setting.now self.now.partition) self.now.heard }
+    {
+        let replicas = setting.replicas(&self.partition);
+        // no more than the replicas, which are seven at most
+        heard_of(replicas.as_slice(), self.heard.as_slice()).min(replicas.len()) as u8
+    }
+
+    /// What the write is told at this time: nothing before its deadline, 5 seconds after its start, and from then on how
+    /// many replicas have acknowledged it.
+    pub fn at_time(
+        &self,
+        alloc: Global,
+        setting: &Setting,
+        request: ReqId,
+        time: Micros,
+    ) -> Result<Move, AllocError>
+        ensures { IfOk result (λ turn. turn ≡ write_at setting.now request time self.now) }
+    {
+        if is_before_deadline(&request, time) {
+            return Ok(Move::quiet(alloc));
+        }
+        let received = self.received(setting);
+        let blockfor = setting.needed(self.level, &self.partition);
+        let refusal = Refusal::WriteTimeout { received, blockfor };
+        Move::tells(alloc, Entry::Refused(request, refusal))
     }
 }

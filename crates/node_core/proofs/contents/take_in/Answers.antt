@@ -1,8 +1,6 @@
-use Rattle.std.proofs.Common.{sym, subst, List, [], Some, None}
-use Rattle.std.specs.Option.{IsSome}
+use Rattle.std.proofs.Common.{Some}
 use Rattle.std.specs.BTreeMap.{is_at}
 use Rattle.std.proofs.lemmas.Result.{on_ok_weaker, on_err_weaker}
-use Rattle.changes.specs.declared.Held.{Held}
 use Rattle.changes.specs.Order.{partition_cmp}
 use Rattle.node_core.proofs.Open.{written_back}
 use Rattle.node_core.proofs.Stored.{takes_in, is_some_found}
