@@ -13,8 +13,8 @@ abbrev pub row_in : List ℕ → Result (List ℕ) PagingError
 row_in [] = Err error.BadPaging
 row_in (b ∷ row) = if b == 1 && nat_le (length row) most_row_bytes then Ok row else Err error.BadPaging
 
--- What was answered is this, unless memory ran out
+-- What was answered is this, but that memory may have run out for a row
 abbrev pub Answers : Result (List ℕ) PagingError → Result (List ℕ) PagingError → Type 0
 Answers (Ok row) meaning = meaning ≡ Ok row
 Answers (Err error.BadPaging) meaning = meaning ≡ Err error.BadPaging
-Answers (Err error.NoMemory) meaning = Unit {0}
+Answers (Err error.NoMemory) meaning = (row : List ℕ) × (meaning ≡ Ok row)

@@ -1,5 +1,5 @@
 //! A plain read at its coordinator, which asks every replica that is alive, and answers from the merge of the replies of
-//! distinct ones until its deadline.
+//! distinct ones; and what the client is to be told once its deadline has come.
 //! After Cassandra's documentation, "Dynamo: Tunable Consistency".
 #![tactic(auto)]
 

@@ -1,5 +1,5 @@
 //! A plain write at its coordinator, which sends it to every replica that is alive and counts the acknowledgements of
-//! distinct ones until its deadline.
+//! distinct ones; and what the client is to be told once its deadline has come.
 //! After Cassandra's documentation, "Dynamo: Tunable Consistency".
 #![tactic(auto)]
 
