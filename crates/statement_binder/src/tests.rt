@@ -25,7 +25,7 @@ fn print_bytes(out: &mut String, bytes: &[u8]) -> Result<(), Fail> {
 }
 
 /// `-` stands behind a bound before the rows that begin with its bytes, and `+` behind one after them.
-fn print_bound(out: &mut String, bound: &Bound) -> Result<(), Fail> {
+fn print_end(out: &mut String, bound: &Bound) -> Result<(), Fail> {
     print_bytes(out, bound.at.as_slice())?;
     let sign = if bound.after { "+" } else { "-" };
     write!(out, "{sign}")?;
@@ -33,9 +33,9 @@ fn print_bound(out: &mut String, bound: &Bound) -> Result<(), Fail> {
 }
 
 fn print_range(out: &mut String, from: &Bound, upto: &Bound) -> Result<(), Fail> {
-    print_bound(out, from)?;
+    print_end(out, from)?;
     write!(out, "..")?;
-    print_bound(out, upto)
+    print_end(out, upto)
 }
 
 fn print_named(out: &mut String, name: &str, row: &Bytes) -> Result<(), Fail> {
@@ -203,6 +203,11 @@ fn statements(alloc: Global) -> Result<Statements, Fail> {
     Ok(statements)
 }
 
+fn schema(alloc: Global) -> Result<Schema, Fail> {
+    let statements = statements(alloc)?;
+    Ok(Schema::from_statements(alloc, &statements, 3, 1, 864_000)?)
+}
+
 /// An int behind `#`, a bigint behind `##`, or a text behind `'`.
 fn given(alloc: Global, word: &str) -> Result<Bytes, AllocError> {
     if let Some(digits) = word.strip_prefix("##") {
@@ -252,22 +257,40 @@ fn params(alloc: Global, words: &str) -> Result<Params, Fail> {
 
 // ---- rows
 
+fn print_unparsed(out: &mut String) -> Result<(), Fail> {
+    write!(out, "not parsed")?;
+    Ok(())
+}
+
+/// Prints the plan of a statement.
+fn print_bound(
+    out: &mut String,
+    alloc: Global,
+    schema: &Schema,
+    used: Option<&str>,
+    text: &str,
+    values: &Params,
+    timestamp: Option<i64>,
+) -> Result<(), Fail> {
+    match parse(alloc, text) {
+        Ok(statement) => {
+            let plan = bind(alloc, schema, used, &statement, values, timestamp);
+            print_outcome(out, &plan)
+        }
+        Err(_) => print_unparsed(out),
+    }
+}
+
 /// The plan of a statement, with `ks` in use where it begins with a space.
 fn outcome(alloc: Global, schema: &Schema, text: &str, words: &str) -> Result<String, Fail> {
-    let mut out = String::new(alloc);
     let used = if text.starts_with(' ') {
         Some("ks")
     } else {
         None
     };
     let values = params(alloc, words)?;
-    match parse(alloc, text) {
-        Ok(statement) => {
-            let plan = bind(alloc, schema, used, &statement, &values, None);
-            print_outcome(&mut out, &plan)?;
-        }
-        Err(_) => write!(out, "not parsed")?,
-    }
+    let mut out = String::new(alloc);
+    print_bound(&mut out, alloc, schema, used, text, &values, None)?;
     Ok(out)
 }
 
@@ -286,14 +309,9 @@ fn add_wrong(out: &mut String, alloc: Global, schema: &Schema, row: &str) -> Res
 /// The rows that are wrong, as they are.
 fn wrong(alloc: Global, rows: &str) -> Result<String, Fail> {
     let mut out = String::new(alloc);
-    let statements = statements(alloc)?;
-    match Schema::from_statements(alloc, &statements, 3, 1, 864_000) {
-        Ok(schema) => {
-            for row in rows.lines() {
-                add_wrong(&mut out, alloc, &schema, row)?;
-            }
-        }
-        Err(_) => write!(out, "no schema")?,
+    let schema = schema(alloc)?;
+    for row in rows.lines() {
+        add_wrong(&mut out, alloc, &schema, row)?;
     }
     Ok(out)
 }
@@ -531,6 +549,15 @@ fn zeros(alloc: Global, count: usize) -> Result<Param, AllocError> {
     Ok(Param::Given(Bytes::from_vec(vec![in alloc; 0u8; count]?)))
 }
 
+/// Texts of these lengths.
+fn texts(alloc: Global, lengths: &[usize]) -> Result<Params, Fail> {
+    let mut values = Items::new(alloc);
+    for length in lengths {
+        values.push(zeros(alloc, *length)?)?;
+    }
+    Ok(Params::ByPlace(values))
+}
+
 /// How a statement with these values is bound, with `ks` in use.
 #[derive(Clone, Copy, Debug, PartialEq, Eq)]
 enum Binding {
@@ -539,28 +566,29 @@ enum Binding {
     Other,
 }
 
-fn bound(alloc: Global, schema: &Schema, text: &str, values: &Params) -> Binding {
-    let Ok(statement) = parse(alloc, text) else {
-        return Binding::Other;
-    };
-    match bind(alloc, schema, Some("ks"), &statement, values, None) {
+fn binding_of(outcome: &Result<Plan, BindError>) -> Binding {
+    match outcome {
         Ok(_) => Binding::Taken,
-        Err(BindError::Refused(fault)) => Binding::Refused(fault),
+        Err(BindError::Refused(fault)) => Binding::Refused(*fault),
         Err(BindError::NoMemory) => Binding::Other,
+    }
+}
+
+fn bound(alloc: Global, schema: &Schema, text: &str, values: &Params) -> Binding {
+    match parse(alloc, text) {
+        Ok(statement) => {
+            let outcome = bind(alloc, schema, Some("ks"), &statement, values, None);
+            binding_of(&outcome)
+        }
+        Err(_) => Binding::Other,
     }
 }
 
 /// What becomes of a statement with texts of such lengths for its markers.
 fn sized(alloc: Global, text: &str, lengths: &[usize]) -> Result<Binding, Fail> {
-    let statements = statements(alloc)?;
-    let mut values = Items::new(alloc);
-    for length in lengths {
-        values.push(zeros(alloc, *length)?)?;
-    }
-    match Schema::from_statements(alloc, &statements, 3, 1, 864_000) {
-        Ok(schema) => Ok(bound(alloc, &schema, text, &Params::ByPlace(values))),
-        Err(_) => Ok(Binding::Other),
-    }
+    let schema = schema(alloc)?;
+    let values = texts(alloc, lengths)?;
+    Ok(bound(alloc, &schema, text, &values))
 }
 
 const ONE: &str = "UPDATE one SET v = ? WHERE k = ?";
@@ -663,30 +691,20 @@ fn refusals_of_sizes_are_in_order(rt: HostRuntime) -> Result<(), Fail> {
     Ok(())
 }
 
-fn print_at(
-    out: &mut String,
-    alloc: Global,
-    schema: &Schema,
-    text: &str,
-    timestamp: Option<i64>,
-) -> Result<(), Fail> {
-    let values = Params::ByPlace(Items::new(alloc));
-    match parse(alloc, text) {
-        Ok(statement) => {
-            let plan = bind(alloc, schema, Some("ks"), &statement, &values, timestamp);
-            print_outcome(out, &plan)
-        }
-        Err(_) => Ok(()),
-    }
-}
-
 /// The plan of a statement, where the protocol gives a timestamp.
 fn written_at(alloc: Global, text: &str, timestamp: Option<i64>) -> Result<String, Fail> {
+    let schema = schema(alloc)?;
+    let values = Params::ByPlace(Items::new(alloc));
     let mut out = String::new(alloc);
-    let statements = statements(alloc)?;
-    if let Ok(schema) = Schema::from_statements(alloc, &statements, 3, 1, 864_000) {
-        print_at(&mut out, alloc, &schema, text, timestamp)?;
-    }
+    print_bound(
+        &mut out,
+        alloc,
+        &schema,
+        Some("ks"),
+        text,
+        &values,
+        timestamp,
+    )?;
     Ok(out)
 }
 
