@@ -1,0 +1,2 @@
+mod PairLists
+pub mod SameEnds
