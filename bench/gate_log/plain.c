@@ -32,9 +32,9 @@ int main(int argc, char **argv) {
     off_t gate = 0;
     for (long i = 0; i < count; i++) {
         must(pwrite(file, entry, sizeof entry, gate + 1) == sizeof entry, "pwrite");
-        must(fsync(file) == 0, "fsync");
+        must(fdatasync(file) == 0, "fsync");
         must(pwrite(file, &open_gate, 1, gate) == 1, "pwrite");
-        must(fsync(file) == 0, "fsync");
+        must(fdatasync(file) == 0, "fsync");
         gate += sizeof entry;
     }
     clock_gettime(CLOCK_MONOTONIC, &end);

@@ -4,8 +4,10 @@
 
 mod bytes;
 mod failed;
+mod faults;
 mod ids;
 mod items;
+mod laws;
 mod leaves;
 mod level;
 mod range;
@@ -13,8 +15,10 @@ mod text;
 
 pub use bytes::Bytes;
 pub use failed::Failed;
+pub use faults::Faults;
 pub use ids::{Ballot, Micros, NodeId, ReqId};
 pub use items::Items;
+pub use laws::{compare_requests, first_node, leaf_count};
 pub use leaves::{LEAVES, LeafSet, Leaves, leaves_are_told_by_their_test};
 pub use level::{
     Level, blockfor, meeting_nodes_share_a_replica, meeting_tests_share_a_replica, meets, quorum,

@@ -1,7 +1,6 @@
 //! The outside of the program: where its input comes from, and where its output goes.
 #![tactic(auto)]
 
-mod faults;
 mod sink;
 mod source;
 #[cfg(test)]

@@ -1,4 +1,4 @@
-pub mod Calls
-pub mod MemLemmas
-pub mod Moments
-pub mod Pasts
+mod Calls
+pub mod Crashes
+mod MemLemmas
+mod Pasts

@@ -1,5 +1,7 @@
+pub mod Calls
 pub mod Disk
 pub mod Faults
+pub mod Images
 pub mod Lent
 pub mod Mem
 pub mod MemFile

@@ -3,12 +3,12 @@ use Rattle.std.specs.Prelude.{ℕ, Bool, List, [], Option, None, Some, is_none, 
 use Rattle.cs_store.specs.declared.mem.MemStore.{MemStore}
 use Rattle.cs_store.specs.declared.mem_stores.MemStores.{MemStores}
 use Rattle.cs_store.specs.Lent.{lent_at}
-use Rattle.cs_store.specs.Mem.{seen_of}
+use Rattle.cs_store.specs.Mem.{disk_of}
 
 -- what a read of a file gives, where the store is there
 abbrev pub seen_in : Option MemStore → ℕ → List ℕ
 seen_in None k = []
-seen_in (Some s) k = seen_of s k
+seen_in (Some s) k = (disk_of s).seen k
 
 abbrev pub holds_of : MemStores → ℕ → ℕ → List ℕ
 holds_of s n k = seen_in (slice_index_or s.stores.items n None) k

@@ -1,7 +1,7 @@
 //! Formatted stores in memory.
 
 ghost use Rattle.std.specs.Prelude.{◌≡◌, ℕ, ◌<◌, IfOk, None, false, is_none, vec_len, slice_index_or};
-ghost use Rattle.cs_store.specs.MemFile.{formatted_bytes};
+ghost use Rattle.cs_store.specs.Images.{formatted_bytes};
 ghost use Rattle.cs_store.specs.MemStores.{seen_in};
 
 use crate::MemStore;

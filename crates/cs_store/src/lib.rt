@@ -1,10 +1,8 @@
 //! The disk of one node: files by number, and what a crash may leave of them.
 #![tactic(auto)]
 
-mod dir_stores;
 mod durable;
 mod file_no;
-mod file_store;
 mod format;
 mod lent;
 mod mem;
@@ -16,12 +14,11 @@ mod stores;
 #[cfg(test)]
 mod tests;
 
-pub use dir_stores::DirStores;
 pub use durable::{cut_durably, write_durably};
 pub use file_no::FileNo;
-pub use file_store::FileStore;
+pub use lent::Lent;
 pub use mem::MemStore;
 pub use mem_file::Outcome;
 pub use mem_stores::MemStores;
 pub use store::Store;
-pub use stores::Stores;
+pub use stores::{Stores, TakeError};

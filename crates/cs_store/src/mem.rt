@@ -1,15 +1,18 @@
 //! A store in memory.
 
-ghost use Rattle.std.specs.Prelude.{◌≡◌, ℕ, ◌+◌, ◌^◌, ◌<◌, ◌≤◌, ◌++◌, [], ◌∷◌, length, take, IsOk, IsErr, IfOk, OnOk, OnErr, None, Some, Ok, Err, true, false, vec_len, slice_index_or};
+ghost use Rattle.std.specs.Prelude.{◌≡◌, ℕ, ◌+◌, ◌^◌, ◌<◌, ◌≤◌, ◌++◌, [], ◌∷◌, length, take, is_ok, IsOk, IsErr, IfOk, OnOk, OnErr, None, Some, Ok, Err, true, false, vec_len, slice_index_or};
 ghost use Rattle.cs_store.specs.Faults.{HasCause};
-ghost use Rattle.cs_store.specs.Disk.{overwritten, Torn, Cut, Stays, IsSettled, Changes, SameFiles, Passes};
-ghost use Rattle.cs_store.specs.MemFile.{outcome_of, nothing, IsQuiet, IsSettledBy, formatted_bytes};
-ghost use Rattle.cs_store.specs.Plan.{sooner, begin_of, plan_after};
+ghost use Rattle.cs_store.specs.Calls.{Call as call};
+ghost use Rattle.cs_store.specs.Disk.{Disk, overwritten, Torn, Cut, Stays, IsSettled, IsImage, Changes, SameFiles, Passes};
+ghost use Rattle.cs_store.specs.Images.{Becomes, untouched, written, shortened, settled, quiet, outcome_of, formatted_bytes};
+ghost use Rattle.cs_store.specs.MemFile.{nothing};
+ghost use Rattle.cs_store.specs.Past.{image_at};
+ghost use Rattle.cs_store.specs.Plan.{sooner, begin_of, plan_after, stopped_after};
 
 use crate::mem_file::MemFile;
 use crate::plan::{Fault, Plan};
 use crate::{FileNo, Outcome, Store};
-use cs_base::Failed;
+use cs_base::{Failed, Faults};
 use http_server::Log;
 use std::alloc::{AllocError, Global};
 
@@ -27,27 +30,30 @@ pub struct MemStore {
     files: Vec<MemFile>,
     plan: Option<Plan>,
     is_stopped: bool,
-    faults: u64,
-    // The files before each change, for proofs alone: it takes no memory.
+    faults: Faults,
+    // The counted calls, and the files before each change, for proofs alone: they take no memory.
+    calls: Log<(), ()>,
     past: Log<Vec<MemFile>, ()>,
     ghost whole: { vec_len files ≡ 4096 },
 }
 
 impl MemStore {
-    ghost use Rattle.cs_store.specs.Mem.{content_of, seen_of, room_at, moment_of, left_of, faults_of, plan_of, is_stopped, IsSure, IsSameDisk, IsAllSettled};
+    ghost use Rattle.cs_store.specs.Mem.{images_of, disk_of, room_at, faults_of, calls_of, plan_of, is_stopped, spares, IsSure, IsSameDisk, IsAllSettled, EndsBy};
 
     /// A store with one zero byte in each of the files 0 to 3 and nothing else.
     pub fn formatted(alloc: Global) -> Result<MemStore, AllocError>
-        ensures files { IfOk result (λ s. (k : ℕ) → IsQuiet (formatted_bytes k) (content_of s k)) }
+        ensures files { IfOk result (λ s. (k : ℕ) → images_of s k ≡ quiet (formatted_bytes k)) }
         ensures settled { IfOk result IsAllSettled }
         ensures sure { IfOk result IsSure }
         ensures faults { IfOk result (λ s. faults_of s ≡ 0) }
+        ensures calls { IfOk result (λ s. calls_of s ≡ 0) }
     {
         Ok(MemStore {
             files: format_files(alloc)?,
             plan: None,
             is_stopped: false,
-            faults: 0,
+            faults: Faults::new(),
+            calls: Log::new(),
             past: Log::new(),
         })
     }
@@ -59,6 +65,7 @@ impl MemStore {
         ensures plan { plan_of self.new ≡ Some (sooner (plan_of self.old) (record { calls = j; fault = Fault.Fail })) }
         ensures disk { IsSameDisk self.old self.new }
         ensures faults { faults_of self.new ≡ faults_of self.old }
+        ensures calls { calls_of self.new ≡ calls_of self.old }
         ensures stopped { is_stopped self.new ≡ is_stopped self.old }
     {
         self.plan_fault(j, Fault::Fail);
@@ -71,13 +78,14 @@ impl MemStore {
         ensures plan { plan_of self.new ≡ Some (sooner (plan_of self.old) (record { calls = j; fault = Fault.Stop outcome })) }
         ensures disk { IsSameDisk self.old self.new }
         ensures faults { faults_of self.new ≡ faults_of self.old }
+        ensures calls { calls_of self.new ≡ calls_of self.old }
         ensures stopped { is_stopped self.new ≡ is_stopped self.old }
     {
         self.plan_fault(j, Fault::Stop(outcome));
     }
 
     /// How often a call has failed.
-    pub fn faults(&self) -> u64
+    pub fn faults(&self) -> Faults
         ensures { result ≡ faults_of self.now }
     {
         self.faults
@@ -87,6 +95,7 @@ impl MemStore {
         ensures plan { plan_of self.new ≡ Some (sooner (plan_of self.old) (record { calls = j; fault = fault })) }
         ensures disk { IsSameDisk self.old self.new }
         ensures faults { faults_of self.new ≡ faults_of self.old }
+        ensures calls { calls_of self.new ≡ calls_of self.old }
         ensures stopped { is_stopped self.new ≡ is_stopped self.old }
     {
         let plan = Plan { calls: j, fault };
@@ -96,10 +105,12 @@ impl MemStore {
     /// Crashes the node and lets it start again: the files are what the outcome says, and faults that were still to
     /// come are forgotten. The files of a node that had stopped are as they were.
     pub fn crash(&mut self, outcome: Outcome)
-        ensures files { (k : ℕ) → IsSettledBy outcome (content_of self.old k) (content_of self.new k) }
+        ensures files { (k : ℕ) → images_of self.new k ≡ settled outcome (images_of self.old k) }
+        ensures left { IsImage (disk_of self.old) (disk_of self.old).moment (disk_of self.new).seen }
         ensures settled { IsAllSettled self.new }
         ensures sure { IsSure self.new }
         ensures faults { faults_of self.new ≡ faults_of self.old }
+        ensures calls { calls_of self.new ≡ calls_of self.old }
     {
         self.settle(outcome);
         self.plan = None;
@@ -108,12 +119,15 @@ impl MemStore {
 
     // Settles each file by an outcome.
     pub(crate) fn settle(&mut self, outcome: Outcome)
-        ensures files { (k : ℕ) → IsSettledBy outcome (content_of self.old k) (content_of self.new k) }
+        ensures files { (k : ℕ) → images_of self.new k ≡ settled outcome (images_of self.old k) }
+        ensures left { IsImage (disk_of self.old) (disk_of self.old).moment (disk_of self.new).seen }
         ensures settled { IsAllSettled self.new }
-        ensures crash { (f : ℕ) → Passes f Stays (moment_of self.old) (moment_of self.new) (left_of self.old) (left_of self.new) }
+        ensures crash { (f : ℕ) → Passes f Stays (disk_of self.old) (disk_of self.new) }
+        ensures room { (k : ℕ) → room_at self.old k ≤ room_at self.new k }
         ensures plan { plan_of self.new ≡ plan_of self.old }
         ensures stopped { is_stopped self.new ≡ is_stopped self.old }
         ensures faults { faults_of self.new ≡ faults_of self.old }
+        ensures calls { calls_of self.new ≡ calls_of self.old }
     {
         self.note();
         settle_each(&mut self.files, outcome);
@@ -126,20 +140,22 @@ impl MemStore {
         ensures plan { plan_of self.new ≡ plan_of self.old }
         ensures stopped { is_stopped self.new ≡ is_stopped self.old }
         ensures faults { faults_of self.new ≡ faults_of self.old }
+        ensures calls { calls_of self.new ≡ calls_of self.old }
     {
         self.past = self.past.and(&self.files, &());
     }
 
     // A write, whose effect is pending.
     fn put(&mut self, f: FileNo, at: usize, bytes: &[u8])
-        requires place { at ≤ length (seen_of self.old f) }
+        requires place { at ≤ length ((disk_of self.old).seen f) }
         requires room { at + length bytes.now ≤ room_at self.old f }
-        ensures files { Changes f (overwritten (seen_of self.old f) at bytes.now) (seen_of self.old) (seen_of self.new) }
-        ensures crash { Passes f (Torn at (length bytes.now)) (moment_of self.old) (moment_of self.new) (left_of self.old) (left_of self.new) }
+        ensures files { Becomes f (written at bytes.now) untouched (images_of self.old) (images_of self.new) }
+        ensures crash { Passes f (Torn at (length bytes.now)) (disk_of self.old) (disk_of self.new) }
         ensures room { (k : ℕ) → room_at self.old k ≤ room_at self.new k }
         ensures plan { plan_of self.new ≡ plan_of self.old }
         ensures stopped { is_stopped self.new ≡ is_stopped self.old }
         ensures faults { faults_of self.new ≡ faults_of self.old }
+        ensures calls { calls_of self.new ≡ calls_of self.old }
     {
         self.note();
         let file = &mut self.files[usize::from(f.number())];
@@ -148,13 +164,14 @@ impl MemStore {
 
     // A cut, whose effect is pending.
     fn shorten(&mut self, f: FileNo, len: usize)
-        requires { len ≤ length (seen_of self.old f) }
-        ensures files { Changes f (take len (seen_of self.old f)) (seen_of self.old) (seen_of self.new) }
-        ensures crash { Passes f (Cut len) (moment_of self.old) (moment_of self.new) (left_of self.old) (left_of self.new) }
+        requires { len ≤ length ((disk_of self.old).seen f) }
+        ensures files { Becomes f (shortened len) untouched (images_of self.old) (images_of self.new) }
+        ensures crash { Passes f (Cut len) (disk_of self.old) (disk_of self.new) }
         ensures room { (k : ℕ) → room_at self.old k ≤ room_at self.new k }
         ensures plan { plan_of self.new ≡ plan_of self.old }
         ensures stopped { is_stopped self.new ≡ is_stopped self.old }
         ensures faults { faults_of self.new ≡ faults_of self.old }
+        ensures calls { calls_of self.new ≡ calls_of self.old }
     {
         self.note();
         let file = &mut self.files[usize::from(f.number())];
@@ -163,26 +180,42 @@ impl MemStore {
 
     // A sync of one file.
     fn settle_one(&mut self, f: FileNo)
-        ensures files { SameFiles (seen_of self.old) (seen_of self.new) }
-        ensures durable { IsQuiet (seen_of self.old f) (content_of self.new f) }
-        ensures crash { Passes f Stays (moment_of self.old) (moment_of self.new) (left_of self.old) (left_of self.new) }
+        ensures files { Becomes f (settled Outcome.Kept) untouched (images_of self.old) (images_of self.new) }
+        ensures crash { Passes f Stays (disk_of self.old) (disk_of self.new) }
         ensures room { (k : ℕ) → room_at self.old k ≤ room_at self.new k }
         ensures plan { plan_of self.new ≡ plan_of self.old }
         ensures stopped { is_stopped self.new ≡ is_stopped self.old }
         ensures faults { faults_of self.new ≡ faults_of self.old }
+        ensures calls { calls_of self.new ≡ calls_of self.old }
     {
         self.note();
         let file = &mut self.files[usize::from(f.number())];
         file.settle(Outcome::Kept);
     }
 
-    // Whether a call fails now, or else the outcome with which the node stops at its end.
+    // Counts a call. Tells whether it fails now, or else the outcome with which the node stops at its end.
     fn begin(&mut self) -> Result<Option<Outcome>, Failed>
         ensures answer { result ≡ begin_of (is_stopped self.old) (plan_of self.old) }
         ensures plan { plan_of self.new ≡ plan_after (is_stopped self.old) (plan_of self.old) }
+        ensures surely { (m n : ℕ) → n < m → spares self.old m → (result ≡ Ok None) × spares self.new n }
         ensures disk { IsSameDisk self.old self.new }
         ensures stopped { is_stopped self.new ≡ is_stopped self.old }
         ensures cause { HasCause (faults_of self.old) (faults_of self.new) result }
+        ensures counted { calls_of self.new ≡ calls_of self.old + 1 }
+    {
+        self.calls = self.calls.and(&(), &());
+        self.next_fault()
+    }
+
+    // What the plan says of this call.
+    fn next_fault(&mut self) -> Result<Option<Outcome>, Failed>
+        ensures answer { result ≡ begin_of (is_stopped self.old) (plan_of self.old) }
+        ensures plan { plan_of self.new ≡ plan_after (is_stopped self.old) (plan_of self.old) }
+        ensures surely { (m n : ℕ) → n < m → spares self.old m → (result ≡ Ok None) × spares self.new n }
+        ensures disk { IsSameDisk self.old self.new }
+        ensures stopped { is_stopped self.new ≡ is_stopped self.old }
+        ensures cause { HasCause (faults_of self.old) (faults_of self.new) result }
+        ensures calls { calls_of self.new ≡ calls_of self.old }
     {
         if self.is_stopped {
             return self.fail();
@@ -213,8 +246,9 @@ impl MemStore {
         ensures plan { plan_of self.new ≡ plan_of self.old }
         ensures stopped { is_stopped self.new ≡ is_stopped self.old }
         ensures cause { HasCause (faults_of self.old) (faults_of self.new) result }
+        ensures calls { calls_of self.new ≡ calls_of self.old }
     {
-        self.faults = self.faults.saturating_add(1);
+        self.faults.raise();
         Err(Failed)
     }
 
@@ -222,12 +256,14 @@ impl MemStore {
     fn end(&mut self, stop: Option<Outcome>) -> Result<(), Failed>
         ensures ok { OnOk result (IsSameDisk self.old self.new) }
         ensures goes { stop ≡ None → IsOk result }
-        ensures stops { (o : Outcome) → stop ≡ Some o → IsErr result × (is_stopped self.new ≡ true) × ((k : ℕ) → IsSettledBy o (content_of self.old k) (content_of self.new k)) }
-        ensures crash { (f : ℕ) → Passes f Stays (moment_of self.old) (moment_of self.new) (left_of self.old) (left_of self.new) }
+        ensures files { EndsBy stop (images_of self.old) (images_of self.new) (is_ok result) }
+        ensures stops { (o : Outcome) → stop ≡ Some o → is_stopped self.new ≡ true }
+        ensures crash { (f : ℕ) → Passes f Stays (disk_of self.old) (disk_of self.new) }
         ensures room { (k : ℕ) → room_at self.old k ≤ room_at self.new k }
         ensures plan { plan_of self.new ≡ plan_of self.old }
         ensures runs { OnOk result (is_stopped self.new ≡ is_stopped self.old) }
         ensures cause { HasCause (faults_of self.old) (faults_of self.new) result }
+        ensures calls { calls_of self.new ≡ calls_of self.old }
     {
         match stop {
             None => Ok(()),
@@ -241,21 +277,25 @@ impl MemStore {
 }
 
 impl Store for MemStore {
-    ghost use Rattle.cs_store.specs.Mem.{seen_of, room_at, moment_of, left_of, faults_of, IsSure};
+    ghost use Rattle.cs_store.specs.Mem.{disk_of, room_at, faults_of, calls_of, spares, Acts, mem_may_stay, mem_spares_fewer};
 
     ghost is_honest = { Unit {0} };
 
-    ghost seen = { seen_of };
-
-    ghost moment = { moment_of };
-
-    ghost left_at = { left_of };
+    ghost disk = { disk_of };
 
     ghost faults = { faults_of };
 
+    ghost calls = { calls_of };
+
+    ghost spares = { spares };
+
     ghost reserved = { room_at };
 
-    ghost never_fails = { IsSure };
+    ghost acts = { Acts };
+
+    ghost may_stay = { mem_may_stay };
+
+    ghost spares_fewer = { mem_spares_fewer };
 
     fn len(&mut self, f: FileNo) -> Result<u64, Failed> {
         let stop = self.begin()?;
@@ -307,7 +347,7 @@ impl Store for MemStore {
 
 fn format_files(alloc: Global) -> Result<Vec<MemFile>, AllocError>
     ensures len { IfOk result (λ files. vec_len files ≡ 4096) }
-    ensures files { IfOk result (λ files. (k : ℕ) → IsQuiet (formatted_bytes k) (slice_index_or files.items k nothing)) }
+    ensures files { IfOk result (λ files. (k : ℕ) → image_at files.items k ≡ quiet (formatted_bytes k)) }
 {
     let mut files = Vec::with_capacity(alloc, FILES)?;
     for number in 0..FILES {
@@ -317,7 +357,7 @@ fn format_files(alloc: Global) -> Result<Vec<MemFile>, AllocError>
 }
 
 fn format_file(alloc: Global, number: usize) -> Result<MemFile, AllocError>
-    ensures { IfOk result (IsQuiet (formatted_bytes number)) }
+    ensures { IfOk result (λ file. file.images ≡ quiet (formatted_bytes number)) }
 {
     let mut new = MemFile::new(alloc);
     if number < 4 {
@@ -329,7 +369,8 @@ fn format_file(alloc: Global, number: usize) -> Result<MemFile, AllocError>
 }
 
 fn settle_each(files: &mut [MemFile], outcome: Outcome)
-    ensures { (k : ℕ) → IsSettledBy outcome (slice_index_or files.old k nothing) (slice_index_or files.new k nothing) }
+    ensures images { (k : ℕ) → image_at files.new k ≡ settled outcome (image_at files.old k) }
+    ensures room { (k : ℕ) → (slice_index_or files.old k nothing).room ≤ (slice_index_or files.new k nothing).room }
 {
     for file in files.iter_mut() {
         file.settle(outcome);

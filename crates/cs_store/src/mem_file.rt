@@ -1,8 +1,9 @@
 //! A file in memory.
 
-ghost use Rattle.std.specs.Prelude.{◌≡◌, ◌+◌, ◌≤◌, ◌++◌, [], length, take, drop, map, OnOk, OnErr, vec_len, vec_capacity};
+ghost use Rattle.std.specs.Prelude.{◌≡◌, ◌+◌, ◌≤◌, length, take, OnOk, vec_len, vec_capacity};
 ghost use Rattle.cs_store.specs.Disk.{overwritten};
-ghost use Rattle.cs_store.specs.MemFile.{complement, nothing, IsSettledBy};
+ghost use Rattle.cs_store.specs.Images.{complement, written, shortened, settled};
+ghost use Rattle.cs_store.specs.MemFile.{nothing};
 
 use std::alloc::{AllocError, Global};
 use std::marker::Model;
@@ -34,7 +35,7 @@ impl Model for MemFile {
 
     ghost Value = { Content };
 
-    ghost view = { λ a. record { kept = a.kept.items; lost = a.lost.items; torn = a.torn.items; room = room_of (vec_capacity a.kept) (vec_capacity a.lost) (vec_capacity a.torn) } };
+    ghost view = { λ a. record { images = record { kept = a.kept.items; lost = a.lost.items; torn = a.torn.items }; room = room_of (vec_capacity a.kept) (vec_capacity a.lost) (vec_capacity a.torn) } };
 
     ghost invariant = { λ a. IsSound a.kept.items a.lost.items a.torn.items a.settled (room_of (vec_capacity a.kept) (vec_capacity a.lost) (vec_capacity a.torn)) };
 }
@@ -52,7 +53,7 @@ impl MemFile {
     }
 
     pub(crate) fn bytes(&self) -> &[u8]
-        ensures { result.now ≡ self.now.kept }
+        ensures { result.now ≡ self.now.images.kept }
     {
         &self.kept
     }
@@ -60,9 +61,7 @@ impl MemFile {
     pub(crate) fn reserve(&mut self, upto: usize) -> Result<(), AllocError>
         ensures ok { OnOk result (upto ≤ self.new.room) }
         ensures room { self.old.room ≤ self.new.room }
-        ensures kept { self.new.kept ≡ self.old.kept }
-        ensures lost { self.new.lost ≡ self.old.lost }
-        ensures torn { self.new.torn ≡ self.old.torn }
+        ensures images { self.new.images ≡ self.old.images }
     {
         grow(&mut self.kept, upto)?;
         grow(&mut self.lost, upto)?;
@@ -70,12 +69,10 @@ impl MemFile {
     }
 
     pub(crate) fn write_at(&mut self, at: usize, bytes: &[u8])
-        requires place { at ≤ length self.old.kept }
+        requires place { at ≤ length self.old.images.kept }
         requires room { at + length bytes.now ≤ self.old.room }
-        ensures kept { self.new.kept ≡ overwritten self.old.kept at bytes.now }
-        ensures lost { self.new.lost ≡ self.old.lost }
-        ensures torn { self.new.torn ≡ overwritten self.old.torn at (complement bytes.now) }
-        ensures size { length self.old.torn ≡ length self.old.kept }
+        ensures images { self.new.images ≡ written at bytes.now self.old.images }
+        ensures size { length self.old.images.torn ≡ length self.old.images.kept }
         ensures room { self.old.room ≤ self.new.room }
     {
         overwrite(&mut self.kept, at, bytes);
@@ -84,11 +81,8 @@ impl MemFile {
     }
 
     pub(crate) fn cut(&mut self, len: usize)
-        requires { len ≤ length self.old.kept }
-        ensures kept { self.new.kept ≡ take len self.old.kept }
-        ensures lost { self.new.lost ≡ self.old.lost }
-        ensures torn { self.new.torn ≡ take len self.old.torn }
-        ensures size { length self.old.torn ≡ length self.old.kept }
+        requires { len ≤ length self.old.images.kept }
+        ensures images { self.new.images ≡ shortened len self.old.images }
         ensures room { self.old.room ≤ self.new.room }
     {
         self.kept.truncate(len);
@@ -98,7 +92,8 @@ impl MemFile {
 
     /// Settles the file: from now on every outcome leaves what this one would have left.
     pub(crate) fn settle(&mut self, outcome: Outcome)
-        ensures { IsSettledBy outcome self.old self.new }
+        ensures images { self.new.images ≡ settled outcome self.old.images }
+        ensures room { self.old.room ≤ self.new.room }
     {
         let at = self.settled;
         match outcome {

@@ -1,12 +1,12 @@
 //! The disks of all nodes, in memory.
 
 ghost use Rattle.std.specs.Prelude.{◌≡◌, ℕ, ◌≤◌, ◌<◌, IfOk, vec_len, false};
-ghost use Rattle.cs_store.specs.MemFile.{formatted_bytes};
+ghost use Rattle.cs_store.specs.Images.{formatted_bytes};
 
 use crate::format::format_stores;
 use crate::lent::Lent;
-use crate::{MemStore, Outcome, Stores};
-use cs_base::{Failed, NodeId};
+use crate::{MemStore, Outcome, Stores, TakeError};
+use cs_base::NodeId;
 use std::alloc::{AllocError, Global};
 
 /// A formatted store in memory for each node. To let calls of a node fail, give back a store that is told so.
@@ -27,7 +27,7 @@ impl MemStores {
     {
         Ok(MemStores {
             stores: format_stores(alloc)?,
-            nodes: [Lent::NEW; 7],
+            nodes: [Lent::new(); 7],
         })
     }
 }
@@ -45,7 +45,9 @@ impl Stores for MemStores {
 
     ghost is_out = { is_out };
 
-    fn take(&mut self, _dir: &str, node: NodeId) -> Result<MemStore, Failed> {
+    ghost is_shared = { ⊥ };
+
+    fn take(&mut self, _dir: &str, node: NodeId) -> Result<MemStore, TakeError> {
         let n = usize::from(node.number());
         let there = self.stores[n].take();
         let lent = &mut self.nodes[n];
@@ -56,8 +58,8 @@ impl Stores for MemStores {
                 Ok(store)
             }
             None => {
-                lent.fail();
-                Err(Failed)
+                lent.faults.raise();
+                Err(TakeError::Busy)
             }
         }
     }

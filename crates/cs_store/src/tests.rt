@@ -1,9 +1,8 @@
 ghost use Rattle.std.specs.Prelude.{◌+◌, ◌≤◌, length};
 
-use crate::{DirStores, FileNo, FileStore, MemStore, MemStores, Outcome, Store, Stores};
+use crate::{FileNo, MemStore, MemStores, Outcome, Store, Stores, TakeError};
 use cs_base::{Failed, NodeId};
 use std::alloc::Global;
-use std::fs;
 use std::test::Fail;
 
 // Writes within the first eight bytes of a file.
@@ -49,27 +48,110 @@ fn a_formatted_store_has_four_zero_bytes(rt: HostRuntime) -> Result<(), Fail> {
     Ok(())
 }
 
+#[derive(Clone, Copy, Debug)]
+enum Kind {
+    Len,
+    Read,
+    Write,
+    Cut,
+    Sync,
+}
+
+// One call of this kind on the file of `pending`, as the second one.
+fn call(store: &mut MemStore, f: FileNo, kind: Kind) -> Result<(), Failed> {
+    if store.len(f)? < 2 || store.reserve(f, 8).is_err() {
+        return Err(Failed);
+    }
+    match kind {
+        Kind::Len => store.len(f).map(|_| ()),
+        Kind::Read => store.read(f, 0, &mut [0; 2]),
+        Kind::Write => store.write_at(f, 0, b"Q"),
+        Kind::Cut => store.cut(f, 2),
+        Kind::Sync => store.sync(f),
+    }
+}
+
+// What is there after a call at which the node stopped.
+fn stopped(alloc: Global, f: FileNo, kind: Kind, outcome: Outcome) -> Result<Vec<u8>, Fail> {
+    let mut store = MemStore::formatted(alloc)?;
+    pending(&mut store, f)?;
+    store.stop_at(2, outcome);
+    if call(&mut store, f, kind).is_ok() || store.len(f).is_ok() || store.faults().count() != 2 {
+        return Err("it goes on".into());
+    }
+    store.crash(Outcome::Lost);
+    contents(alloc, &mut store, f)
+}
+
+// What is there after a call that failed, and then after a crash.
+fn failed(alloc: Global, f: FileNo, kind: Kind) -> Result<(Vec<u8>, Vec<u8>), Fail> {
+    let mut store = MemStore::formatted(alloc)?;
+    pending(&mut store, f)?;
+    store.fail_at(2);
+    if call(&mut store, f, kind).is_ok() || store.faults().count() != 1 {
+        return Err("it went through".into());
+    }
+    let seen = contents(alloc, &mut store, f)?;
+    store.crash(Outcome::Lost);
+    Ok((seen, contents(alloc, &mut store, f)?))
+}
+
+// What is there after a call that went through.
+fn done(alloc: Global, f: FileNo, kind: Kind) -> Result<Vec<u8>, Fail> {
+    let mut store = MemStore::formatted(alloc)?;
+    pending(&mut store, f)?;
+    call(&mut store, f, kind)?;
+    contents(alloc, &mut store, f)
+}
+
 #[test]
-fn a_crash_leaves_what_its_outcome_says(rt: HostRuntime) -> Result<(), Fail> {
+fn each_call_does_what_is_planned(rt: HostRuntime) -> Result<(), Fail> {
     let alloc = rt.alloc();
     let f = FileNo::new(5).ok_or("a file")?;
+    // What a call that goes through leaves, and what a stop at it leaves where all or torn bytes are there.
     let table = [
-        (Outcome::Kept, b"axyz".as_slice()),
-        (Outcome::Lost, b"ab".as_slice()),
-        (Outcome::Torn, [b'a', 0x87, 0x86, 0x85].as_slice()),
+        (
+            Kind::Len,
+            b"axyz".as_slice(),
+            [b'a', 0x87, 0x86, 0x85].as_slice(),
+        ),
+        (
+            Kind::Read,
+            b"axyz".as_slice(),
+            [b'a', 0x87, 0x86, 0x85].as_slice(),
+        ),
+        (
+            Kind::Write,
+            b"Qxyz".as_slice(),
+            [0xae, 0x87, 0x86, 0x85].as_slice(),
+        ),
+        (Kind::Cut, b"ax".as_slice(), [b'a', 0x87].as_slice()),
+        (
+            Kind::Sync,
+            b"axyz".as_slice(),
+            [b'a', 0x87, 0x86, 0x85].as_slice(),
+        ),
     ];
-    for (outcome, want) in table {
-        let mut store = MemStore::formatted(alloc)?;
-        pending(&mut store, f)?;
-        store.crash(outcome);
-        let bytes = contents(alloc, &mut store, f)?;
-        assert_eq!(rt; bytes.as_slice(), want, "{outcome:?}");
+    for (kind, kept, torn) in table {
+        assert_eq!(rt; done(alloc, f, kind)?.as_slice(), kept, "{kind:?}");
+        let (seen, left) = failed(alloc, f, kind)?;
+        assert_eq!(rt; seen.as_slice(), b"axyz".as_slice(), "{kind:?}");
+        assert_eq!(rt; left.as_slice(), b"ab".as_slice(), "{kind:?}");
+        let stops = [
+            (Outcome::Kept, kept),
+            (Outcome::Lost, b"ab".as_slice()),
+            (Outcome::Torn, torn),
+        ];
+        for (outcome, want) in stops {
+            let left = stopped(alloc, f, kind, outcome)?;
+            assert_eq!(rt; left.as_slice(), want, "{kind:?} {outcome:?}");
+        }
     }
     Ok(())
 }
 
 #[test]
-fn the_named_call_fails_or_stops_the_node(rt: HostRuntime) -> Result<(), Fail> {
+fn the_sooner_of_two_plans_comes(rt: HostRuntime) -> Result<(), Fail> {
     let alloc = rt.alloc();
     let f = FileNo::new(5).ok_or("a file")?;
     let mut store = MemStore::formatted(alloc)?;
@@ -77,19 +159,9 @@ fn the_named_call_fails_or_stops_the_node(rt: HostRuntime) -> Result<(), Fail> {
     store.fail_at(2);
     assert_eq!(rt; store.sync(f), Ok(()));
     assert_eq!(rt; store.sync(f), Err(Failed));
-    assert_eq!(rt; store.faults(), 1);
     // The call that failed forgot the stop.
     assert_eq!(rt; store.sync(f), Ok(()));
     assert_eq!(rt; store.sync(f), Ok(()));
-    pending(&mut store, f)?;
-    store.stop_at(1, Outcome::Lost);
-    store.fail_at(2);
-    assert_eq!(rt; store.sync(f), Err(Failed));
-    assert_eq!(rt; store.len(f), Err(Failed));
-    assert_eq!(rt; store.faults(), 3);
-    store.crash(Outcome::Kept);
-    let bytes = contents(alloc, &mut store, f)?;
-    assert_eq!(rt; bytes.as_slice(), b"ab".as_slice());
     store.stop_at(1, Outcome::Lost);
     store.fail_at(1);
     assert_eq!(rt; store.sync(f), Err(Failed));
@@ -104,54 +176,12 @@ fn each_store_is_handed_out_once(rt: HostRuntime) -> Result<(), Fail> {
     let node = NodeId::new(6).ok_or("a node")?;
     let mut stores = MemStores::formatted(alloc)?;
     let mut store = stores.take("", node)?;
-    assert!(rt; stores.take("", node).is_err());
+    assert!(rt; matches!(stores.take("", node), Err(TakeError::Busy)));
     pending(&mut store, f)?;
     stores.back(node, store);
     let mut store = stores.take("", node)?;
     store.crash(Outcome::Lost);
     let bytes = contents(alloc, &mut store, f)?;
     assert_eq!(rt; bytes.as_slice(), b"axyz".as_slice());
-    Ok(())
-}
-
-#[test]
-fn a_folder_keeps_its_files(rt: HostRuntime) -> Result<(), Fail> {
-    let alloc = rt.alloc();
-    let path = "cs_store_file_test";
-    let _ = fs::remove_dir_all(&rt, path);
-    fs::create_dir(&rt, path)?;
-    let f = FileNo::new(5).ok_or("a file")?;
-    let mut store = FileStore::new(rt.clone()?, String::from_str(alloc, path)?);
-    pending(&mut store, f)?;
-    store.cut(f, 3)?;
-    store.sync(f)?;
-    assert!(rt; store.read(f, 2, &mut [0; 2]).is_err());
-    assert_eq!(rt; store.faults(), 1);
-    let mut second = FileStore::new(rt.clone()?, String::from_str(alloc, path)?);
-    let bytes = contents(alloc, &mut second, f)?;
-    assert_eq!(rt; bytes.as_slice(), b"axy".as_slice());
-    fs::remove_dir_all(&rt, path)?;
-    Ok(())
-}
-
-#[test]
-fn a_folder_without_files_is_formatted(rt: HostRuntime) -> Result<(), Fail> {
-    let alloc = rt.alloc();
-    let path = "cs_store_dir_test";
-    let _ = fs::remove_dir_all(&rt, path);
-    fs::create_dir(&rt, path)?;
-    let f = FileNo::new(3).ok_or("a file")?;
-    let node = NodeId::new(2).ok_or("a node")?;
-    let mut stores = DirStores::new(rt.clone()?);
-    let mut store = stores.take(path, node)?;
-    assert!(rt; stores.take(path, node).is_err());
-    let bytes = contents(alloc, &mut store, f)?;
-    assert_eq!(rt; bytes.as_slice(), [0].as_slice());
-    pending(&mut store, f)?;
-    stores.back(node, store);
-    let mut store = stores.take(path, node)?;
-    let bytes = contents(alloc, &mut store, f)?;
-    assert_eq!(rt; bytes.as_slice(), b"axyz".as_slice());
-    fs::remove_dir_all(&rt, path)?;
     Ok(())
 }

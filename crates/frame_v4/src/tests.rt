@@ -302,6 +302,23 @@ fn longest_body_in_small_pieces(rt: HostRuntime) -> Result<(), Fail> {
     Ok(())
 }
 
+#[test]
+fn longest_body_in_large_pieces(rt: HostRuntime) -> Result<(), Fail> {
+    let mut framer = Framer::new(rt.alloc());
+    let begun = framer.feed(&unhex(rt.alloc(), "04 00 0001 0A 01000000")?)?;
+    assert_eq!(rt; begun.as_slice().len(), 0);
+    let piece = vec![in rt.alloc(); 7u8; 262_144]?;
+    for _ in 1..64 {
+        assert_eq!(rt; framer.feed(&piece)?.as_slice().len(), 0);
+    }
+    let given = framer.feed(&piece)?;
+    let frames = given.as_slice();
+    assert_eq!(rt; frames.len(), 1);
+    assert_eq!(rt; frames[0].body.as_slice().len(), 16_777_216);
+    assert!(rt; frames[0].body.as_slice().iter().all(|byte| *byte == 7));
+    Ok(())
+}
+
 /// The frames before a refusal are taken once.
 #[test]
 fn frames_are_taken(rt: HostRuntime) -> Result<(), Fail> {

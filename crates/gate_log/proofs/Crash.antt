@@ -5,7 +5,7 @@ use Rattle.std.proofs.lemmas.Bool.{cases_eq}
 use Rattle.std.proofs.lemmas.List.{append-nil, take_at, drop_at, take_all, drop_all, drop_more}
 use Rattle.cs_store.specs.Disk.{overwritten, Torn, Cut}
 use Rattle.gate_log.specs.Format.{spellings, AreShort, Reads}
-use Rattle.gate_log.proofs.Entries.{spellings-push, short_push}
+use Rattle.gate_log.proofs.Spellings.{spellings-push, short_push}
 
 -- what stands behind the gate of an entry
 abbrev pub behind : List ℕ → List ℕ
@@ -72,7 +72,9 @@ module _ (es : List (List ℕ)) (byte gate : ℕ) (closed : byte ≢ 197) (short
     -- the entry stands whole in each outcome of the write of its gate
     pub torn_gate : (c : List ℕ) → Torn gate 1 staged c → Reads es c ⊎ Reads (es ++ bytes ∷ []) c
     torn_gate c torn =
-        let long : length c ≡ length staged = elim torn.size [ inl same ↦ same | inr more ↦ omega (arith, length-staged) ] in
+        let low = torn.no_shorter in
+        let high = torn.no_longer in
+        let long : length c ≡ length staged = omega (arith, low, high, length-staged) in
         let whole : min gate (length staged) ≡ gate = omega (arith, length-staged) in
         let before : take gate c ≡ spellings es = ap (λ (k : ℕ). take k c) (sym whole) ∙ torn.before ∙ front in
         let all : take (length staged) c ≡ c = take_all (length staged) c (omega (arith, long)) in

@@ -1,4 +1,6 @@
-pub mod Crash
-pub mod Entries
-pub mod Moves
-pub mod Readings
+mod Clearing
+mod Crash
+mod Ends
+mod Moves
+mod Readings
+mod Spellings

@@ -1,10 +1,10 @@
 -- What the calls of a log make of the entries of a file.
 use Rattle.std.proofs.Common.{◌≡◌, inl, inr, ⊎_elim, ℕ, ◌+◌, ◌^◌, ◌<◌, List, [], ◌∷◌, ◌++◌, length, take, ◌∙◌, ap, subst}
-use Rattle.cs_store.specs.Disk.{overwritten, Torn, Cut, LeavesOnly}
-use Rattle.gate_log.specs.Format.{spellings, Reads, Adds, IsBeforeOrAfter, ReadsAlike}
+use Rattle.cs_store.specs.Disk.{Disk, overwritten, Torn, Cut, LeavesOnly}
+use Rattle.gate_log.specs.Format.{spellings, Reads, Adds, IsBeforeOrAfter}
 use Rattle.gate_log.specs.Place.{Place, IsAtRest}
 use Rattle.gate_log.proofs.Crash.{behind, torn_behind, written_behind, torn_gate, gate_written, next_place, cut_reads, cut_done}
-use Rattle.gate_log.proofs.Entries.{short_push}
+use Rattle.gate_log.proofs.Spellings.{short_push}
 use Rattle.gate_log.proofs.Readings.{same_entries}
 
 -- a file at rest reads as its entries
@@ -58,15 +58,13 @@ module _ (gate : ℕ) (file bytes : List ℕ) (rest : IsAtRest gate file) where
         subst (λ (es : List (List ℕ)). Reads (es ++ bytes ∷ []) done) (those entries reads) (reads_at_rest (gate + (length bytes + 5)) done rests)
 
 -- the same at another name of the log
-pub same_log : (p q : Place) → p ≡ q → (seen : ℕ → List ℕ) (bytes : List ℕ) (before now : ℕ) (past left : ℕ → ℕ → List ℕ → Type 0) → LeavesOnly p.file (IsBeforeOrAfter bytes (seen p.file)) before now past left
-    → LeavesOnly q.file (IsBeforeOrAfter bytes (seen q.file)) before now past left
-same_log p q same seen bytes before now past left only = subst (λ (r : Place). LeavesOnly r.file (IsBeforeOrAfter bytes (seen r.file)) before now past left) same only
+pub same_log : (p q : Place) → p ≡ q → (bytes : List ℕ) (old new : Disk) → LeavesOnly p.file (IsBeforeOrAfter bytes (old.seen p.file)) old new → LeavesOnly q.file (IsBeforeOrAfter bytes (old.seen q.file)) old new
+same_log p q same bytes old new only = subst (λ (r : Place). LeavesOnly r.file (IsBeforeOrAfter bytes (old.seen r.file)) old new) same only
 
 -- a file that is cut behind its gate
 module _ (entries : List (List ℕ)) (gate : ℕ) (file : List ℕ) (reads : Reads entries file) (place : gate ≡ length (spellings entries)) where
-  pub cut_alike : (c : List ℕ) → Cut (gate + 1) file c → ReadsAlike file c
-  cut_alike c cut =
-      inr (entries, reads, cut_reads entries reads.gate gate reads.rest c reads.closed reads.short place (subst (λ (l : List ℕ). Cut (gate + 1) l c) reads.split cut))
+  pub cut_keeps : (c : List ℕ) → Cut (gate + 1) file c → Reads entries c
+  cut_keeps c cut = cut_reads entries reads.gate gate reads.rest c reads.closed reads.short place (subst (λ (l : List ℕ). Cut (gate + 1) l c) reads.split cut)
 
   pub cut_rests : IsAtRest gate (take (gate + 1) file)
   cut_rests = record {

@@ -48,8 +48,8 @@ breaks_open gate rest p (inl none) = absurd (cc none.0)
 breaks_open gate rest p (inr b) = ap (λ (l : List ℕ). get_or l 0 0) b.1
 
 not_both : (file : List ℕ) (es : List (List ℕ)) (p : ℕ) → Reads es file → IsDamaged p file → ⊥
-not_both file es p a b =
-    let same = one_split es b.entries (a.gate ∷ a.rest) b.rest (stuck_closed a.gate a.rest a.closed) (stuck_breaks b.rest b.field b.breaks) a.short b.short (sym a.split ∙ b.split) in
+not_both file es p a (fs, b) =
+    let same = one_split es fs (a.gate ∷ a.rest) b.rest (stuck_closed a.gate a.rest a.closed) (stuck_breaks b.rest b.field b.breaks) a.short b.short (sym a.split ∙ b.split) in
     a.closed (breaks_open a.gate a.rest b.field (subst (λ (l : List ℕ). Breaks l b.field) (sym same.1) b.breaks))
 
 one_break : (bytes : List ℕ) (p q : ℕ) → Breaks bytes p → Breaks bytes q → p ≡ q
@@ -59,11 +59,13 @@ one_break bytes p q (inr a) (inl b) = absurd (cc (a.1, b.0))
 one_break bytes p q (inr a) (inr b) = a.3 ∙ sym b.3
 
 one_damage : (file : List ℕ) (p q : ℕ) → IsDamaged p file → IsDamaged q file → p ≡ q
-one_damage file p q a b =
-    let same = one_split a.entries b.entries a.rest b.rest (stuck_breaks a.rest a.field a.breaks) (stuck_breaks b.rest b.field b.breaks) a.short b.short (sym a.split ∙ b.split) in
+one_damage file p q (es, a) (fs, b) =
+    let same = one_split es fs a.rest b.rest (stuck_breaks a.rest a.field a.breaks) (stuck_breaks b.rest b.field b.breaks) a.short b.short (sym a.split ∙ b.split) in
     let fields : a.field ≡ b.field = one_break b.rest a.field b.field (subst (λ (l : List ℕ). Breaks l a.field) same.1 a.breaks) b.breaks in
-    let sizes : length (spellings a.entries) ≡ length (spellings b.entries) = ap (λ (es : List (List ℕ)). length (spellings es)) same.0 in
-    omega (arith, a.there, b.there, fields, sizes)
+    let sizes : length (spellings es) ≡ length (spellings fs) = ap (λ (gs : List (List ℕ)). length (spellings gs)) same.0 in
+    let one = a.there in
+    let two = b.there in
+    omega (arith, one, two, fields, sizes)
 
 pub one_reading : (file : List ℕ) → IsOneReading file
 one_reading file = (same_entries file, not_both file, one_damage file)

@@ -1,5 +1,5 @@
 -- The format of a log: entries, each behind an open gate byte, and then one closed gate byte.
-use Rattle.std.specs.Prelude.{◌≡◌, ◌≢◌, ◌⊎◌, ℕ, ◌+◌, ◌^◌, ◌<◌, List, [], ◌∷◌, ◌++◌, length, take}
+use Rattle.std.specs.Prelude.{◌≡◌, ◌≢◌, ◌⊎◌, ℕ, ◌+◌, ◌^◌, ◌<◌, Option, MatchOption, List, [], ◌∷◌, ◌++◌, length, take}
 use Rattle.std.specs.Int.{w32, to_be_bytes, from_be_bytes}
 use Rattle.std.specs.List.{AllByRecursion}
 
@@ -46,14 +46,21 @@ abbrev pub Breaks : List ℕ → ℕ → Type 0
 Breaks bytes field = ((bytes ≡ []) × (field ≡ 0)) ⊎ ((behind : List ℕ) × (bytes ≡ 197 ∷ behind) × HasNoEntry behind × (field ≡ 1))
 
 -- Behind these entries the file breaks the format, first at this place.
-pub record IsDamaged (place : ℕ) (file : List ℕ) : Type 0 where
-  pub entries : List (List ℕ)
+pub record BreaksBehind (entries : List (List ℕ)) (place : ℕ) (file : List ℕ) : Type 0 where
   pub rest : List ℕ
   pub field : ℕ
   pub split : file ≡ spellings entries ++ rest
   pub short : AreShort entries
   pub breaks : Breaks rest field
   pub there : place ≡ length (spellings entries) + field
+
+-- Behind some entries the file breaks the format, first at this place.
+abbrev pub IsDamaged : ℕ → List ℕ → Type 0
+IsDamaged place file = (entries : List (List ℕ)) × BreaksBehind entries place file
+
+-- What a read finds: entries up to a closed gate, or those before the field that breaks the format at this place.
+abbrev pub IsFound : List (List ℕ) → Option ℕ → List ℕ → Type 0
+IsFound entries damage file = MatchOption damage (Reads entries file) (λ place. BreaksBehind entries place file)
 
 -- A file reads as one list of entries at most, and then it isn't damaged; and it is damaged at one place at most.
 abbrev pub IsOneReading : List ℕ → Type 0
@@ -69,6 +76,10 @@ Adds bytes old new = (entries : List (List ℕ)) → Reads entries old → Reads
 -- the file reads as what it read as before, with this entry at the end or without it
 abbrev pub IsBeforeOrAfter : List ℕ → List ℕ → List ℕ → Type 0
 IsBeforeOrAfter bytes old new = (entries : List (List ℕ)) → Reads entries old → Reads entries new ⊎ Reads (entries ++ bytes ∷ []) new
+
+-- the file reads as what it read as before, or as no entry
+abbrev pub IsBeforeOrEmpty : List ℕ → List ℕ → Type 0
+IsBeforeOrEmpty old new = (entries : List (List ℕ)) → Reads entries old → Reads entries new ⊎ Reads [] new
 
 -- The file is as it was, or reads as the same entries.
 abbrev pub ReadsAlike : List ℕ → List ℕ → Type 0

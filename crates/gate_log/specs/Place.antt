@@ -22,3 +22,8 @@ pub record CanAppend (n : ℕ) (log : Place) (reserved : ℕ → ℕ) : Type 0 w
   pub buffer : n + 5 ≤ log.room
   pub store : log.gate + n + 6 ≤ reserved log.file
   pub limit : log.gate + n + 6 ≤ 2 ^ 26
+
+-- the file begins with an open gate
+pub record IsOpen (file : List ℕ) : Type 0 where
+  pub rest : List ℕ
+  pub split : file ≡ 197 ∷ rest

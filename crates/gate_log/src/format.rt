@@ -1,15 +1,11 @@
 //! Entries behind gate bytes.
 
-ghost use Rattle.std.specs.Prelude.{◌≡◌, ◌+◌, ◌++◌, ℕ, ◌^◌, ◌<◌, List, length, IsSome, IfSome, IfNone, IfOk, IfErr, IsErrOf};
+ghost use Rattle.std.specs.Prelude.{◌≡◌, ◌+◌, ◌++◌, ℕ, ◌^◌, ◌<◌, List, length, IfSome, IfNone, IfOk, IfErr};
 ghost use Rattle.std.specs.Int.{w32, to_be_bytes};
-ghost use Rattle.gate_log.specs.Format.{spellings, Reads, HasNoEntry, IsNext, IsClosed, Breaks, IsDamaged, IsOneReading};
+ghost use Rattle.gate_log.specs.Entries.{pieces, IsSplit};
+ghost use Rattle.gate_log.specs.Format.{IsFound, HasNoEntry, IsNext, IsClosed, Breaks, IsOneReading};
 
-use crate::GateError;
-use cs_base::{Bytes, Items};
-use std::alloc::Global;
-
-/// The entries of a log, in order.
-pub type Entries = Items<Bytes>;
+use std::alloc::{AllocError, Global};
 
 /// The gate byte before an entry. Every other byte is a closed gate.
 pub(crate) const OPEN: u8 = 0xc5;
@@ -46,24 +42,31 @@ fn next_entry(bytes: &[u8]) -> Result<Option<(&[u8], &[u8])>, usize>
     }
 }
 
-/// Reads the entries up to the first closed gate, and gives the place of that gate.
-pub(crate) fn read_entries(alloc: Global, bytes: &[u8]) -> Result<(Entries, usize), GateError>
-    ensures ok { IfOk result (λ r. Reads r.0 bytes.now × (r.1 ≡ length (spellings r.0))) }
-    ensures damaged { (p : ℕ) → IsErrOf result (GateError.Damaged p) → IsDamaged p bytes.now }
-    ensures failed { IsErrOf result GateError.Failed → ⊥ }
-    ensures full { IsErrOf result GateError.Full → ⊥ }
+/// Where the entries of a file end, up to the first closed gate or the first field that breaks the format, and the
+/// place of that field.
+#[derive(Debug, Drop)]
+pub(crate) struct Ends {
+    pub(crate) ends: Vec<usize>,
+    pub(crate) damage: Option<u64>,
+}
+
+pub(crate) fn find_ends(alloc: Global, bytes: &[u8]) -> Result<Ends, AllocError>
+    ensures split { IfOk result (λ s. IsSplit 0 bytes.now s.ends.items) }
+    ensures found { IfOk result (λ s. IsFound (pieces 0 bytes.now s.ends.items) s.damage bytes.now) }
 {
-    let mut entries = Entries::new(alloc);
-    let mut rest = bytes;
+    let mut ends = Vec::new(alloc);
+    let mut gate = 0;
     'entries: loop {
-        let gate = bytes.len() - rest.len();
-        match next_entry(rest) {
-            Ok(Some((entry, behind))) => {
-                entries.push(Bytes::from_slice(alloc, entry)?)?;
-                rest = behind;
+        match next_entry(&bytes[gate..]) {
+            Ok(Some((entry, _))) => {
+                gate += 5 + entry.len();
+                ends.push(gate)?;
             }
-            Ok(None) => return Ok((entries, gate)),
-            Err(field) => return Err(GateError::Damaged((gate + field) as u64)),
+            Ok(None) => return Ok(Ends { ends, damage: None }),
+            Err(field) => {
+                let damage = Some((gate + field) as u64);
+                return Ok(Ends { ends, damage });
+            }
         }
     }
 }

@@ -1,11 +1,12 @@
-ghost use Rattle.std.specs.Prelude.{◌≤◌, IfOk};
-ghost use Rattle.cs_store.specs.Mem.{IsAllSettled};
+ghost use Rattle.std.specs.Prelude.{◌<◌, ◌≤◌, ◌^◌, length, IfOk};
+ghost use Rattle.cs_store.specs.Disk.{IsSettled};
+ghost use Rattle.cs_store.specs.Mem.{IsAllSettled, disk_of};
+ghost use Rattle.gate_log.specs.Place.{IsAtRest};
 
-use crate::format::read_entries;
+use crate::format::find_ends;
 use crate::{Entries, GateError, GateLog};
-use cs_store::{FileNo, FileStore, MemStore, Outcome, Store};
+use cs_store::{FileNo, MemStore, Outcome, Store};
 use std::alloc::Global;
-use std::fs;
 use std::test::Fail;
 
 // A store whose file 0 has these bytes.
@@ -26,70 +27,133 @@ fn store_with(alloc: Global, f: FileNo, bytes: &[u8]) -> Result<MemStore, Fail>
 // An entry of one byte, a closed gate, and bytes behind it.
 const LOG: [u8; 10] = [0xc5, 0, 0, 0, 1, 9, 7, 1, 2, 3];
 
-#[test]
-fn reads_entries_up_to_the_first_closed_gate(rt: HostRuntime) -> Result<(), Fail> {
-    let alloc = rt.alloc();
-    let f = FileNo::new(0).ok_or("a file")?;
-    let damaged = [
-        ([].as_slice(), 0),
-        ([0xc5].as_slice(), 1),
-        ([0xc5, 0, 0, 0].as_slice(), 1),
-        ([0xc5, 0, 0, 0, 1].as_slice(), 1),
-        ([0xc5, 0, 0, 0, 1, 9].as_slice(), 6),
-        ([0xc5, 0, 0, 0, 0, 0xc5].as_slice(), 6),
-    ];
-    for (bytes, place) in damaged {
-        let mut store = store_with(alloc, f, bytes)?;
-        let answer = GateLog::load(alloc, &mut store, f);
-        assert!(rt; matches!(answer, Err(GateError::Damaged(p)) if p == place));
+// Where the one entry of the log ends, and which field breaks the format.
+type Found = (Option<usize>, Option<u64>);
+
+fn found_in(alloc: Global, bytes: &[u8]) -> Result<Found, Fail> {
+    let found = find_ends(alloc, bytes)?;
+    if found.ends.len() > 1 {
+        return Err("more than one entry".into());
     }
-    let mut store = store_with(alloc, f, &LOG)?;
-    let (_, entries) = GateLog::load(alloc, &mut store, f)?;
-    assert_eq!(rt; entries.as_slice().len(), 1);
-    assert_eq!(rt; entries.as_slice()[0].as_slice(), [9].as_slice());
-    assert_eq!(rt; store.len(f)?, 7);
-    Ok(())
+    Ok((found.ends.first().copied(), found.damage))
+}
+
+// What is found where byte n of the log is changed to this.
+fn change_gives(n: usize, byte: u8) -> Found {
+    match (n, byte) {
+        (0, 0xc5) | (1..=3, 0) => (Some(6), None),
+        (0, _) => (None, None),
+        (1..=3, _) => (None, Some(1)),
+        (4, 0..=4) => (Some(5 + byte as usize), None),
+        (4, 5) => (Some(10), Some(10)),
+        (4, _) => (None, Some(1)),
+        (6, 0xc5) => (Some(6), Some(7)),
+        _ => (Some(6), None),
+    }
 }
 
 #[test]
-fn each_prefix_and_each_change_is_read_or_damaged(rt: HostRuntime) -> Result<(), Fail> {
+fn each_prefix_and_each_change_gives_its_entries_or_place(rt: HostRuntime) -> Result<(), Fail> {
     let alloc = rt.alloc();
-    for n in 0..LOG.len() {
-        let answer = read_entries(alloc, &LOG[..n]);
-        assert!(rt; matches!(answer, Ok(_) | Err(GateError::Damaged(_))));
+    for n in 0..=LOG.len() {
+        let want = match n {
+            0 => (None, Some(0)),
+            1..=5 => (None, Some(1)),
+            6 => (Some(6), Some(6)),
+            _ => (Some(6), None),
+        };
+        assert_eq!(rt; found_in(alloc, &LOG[..n])?, want, "{n}");
     }
     for n in 0..LOG.len() {
         for byte in 0..=255u8 {
             let mut bytes = LOG;
             bytes[n] = byte;
-            let answer = read_entries(alloc, &bytes);
-            assert!(rt; matches!(answer, Ok(_) | Err(GateError::Damaged(_))));
+            assert_eq!(rt;
+                found_in(alloc, &bytes)?,
+                change_gives(n, byte),
+                "{n} {byte}"
+            );
         }
     }
     Ok(())
 }
 
-// What is read after an append whose n-th call stopped the node with this outcome.
-fn after_stop(alloc: Global, call: u32, outcome: Outcome) -> Result<Entries, Fail>
+#[test]
+fn a_damaged_file_is_left_as_it_is(rt: HostRuntime) -> Result<(), Fail> {
+    let alloc = rt.alloc();
+    let f = FileNo::new(0).ok_or("a file")?;
+    let bytes = [0xc5, 0, 0, 0, 1, 9, 0xc5, 0, 0, 0, 2, 8];
+    let mut store = store_with(alloc, f, &bytes)?;
+    let answer = GateLog::load(alloc, &mut store, f);
+    assert!(rt; matches!(answer, Err(GateError::Damaged(7))));
+    assert_eq!(rt; store.len(f)?, 12);
+    Ok(())
+}
+
+#[test]
+fn a_file_is_cut_behind_its_gate(rt: HostRuntime) -> Result<(), Fail> {
+    let alloc = rt.alloc();
+    let f = FileNo::new(0).ok_or("a file")?;
+    let mut store = store_with(alloc, f, &LOG)?;
+    let (log, entries) = GateLog::load(alloc, &mut store, f)?;
+    assert_eq!(rt; entries.len(), 1);
+    assert_eq!(rt; entries.entry(0), [9].as_slice());
+    assert_eq!(rt; entries.place(1), 6);
+    assert_eq!(rt; log.len(), 7);
+    assert_eq!(rt; store.len(f)?, 7);
+    Ok(())
+}
+
+// The entries that a crash leaves.
+fn left(alloc: Global, store: &mut MemStore, f: FileNo) -> Result<(GateLog, Entries), Fail>
+    ensures settled { IfOk result (λ r. IsSettled r.0.file (disk_of store.new)) }
+    ensures at_rest { IfOk result (λ r. IsAtRest r.0.gate ((disk_of store.new).seen r.0.file)) }
+{
+    store.crash(Outcome::Lost);
+    Ok(GateLog::load(alloc, store, f)?)
+}
+
+// Appends an entry to what a crash leaves, and tells whether it was acknowledged. The call of this number stops the
+// node: an append makes four.
+fn append(
+    alloc: Global,
+    store: &mut MemStore,
+    f: FileNo,
+    bytes: &[u8],
+    call: u32,
+    outcome: Outcome,
+) -> Result<bool, Fail>
+    requires short { length bytes.now < 2 ^ 32 }
+    requires call { 1 ≤ call }
+{
+    let (mut log, _) = left(alloc, store, f)?;
+    log.reserve(store, bytes.len() as u32)?;
+    store.stop_at(call, outcome);
+    Ok(log.append(store, bytes).is_ok())
+}
+
+// Empties the log.
+fn clear(alloc: Global, store: &mut MemStore, f: FileNo) -> Result<(), Fail> {
+    let (mut log, _) = left(alloc, store, f)?;
+    log.reserve(store, 0)?;
+    Ok(log.clear(store)?)
+}
+
+// How many entries are there after an append whose n-th call stopped the node with this outcome.
+fn after_stop(alloc: Global, call: u32, outcome: Outcome) -> Result<usize, Fail>
     requires { 1 ≤ call }
 {
     let f = FileNo::new(0).ok_or("a file")?;
     let mut store = MemStore::formatted(alloc)?;
-    let (mut log, _) = GateLog::load(alloc, &mut store, f)?;
-    log.reserve(&mut store, 3)?;
-    store.stop_at(call, outcome);
-    let answer = log.append(&mut store, b"one");
-    store.crash(Outcome::Kept);
-    let (_, entries) = GateLog::load(alloc, &mut store, f)?;
-    if answer.is_ok() {
+    if append(alloc, &mut store, f, b"one", call, outcome)? {
         return Err("the call did not stop".into());
     }
-    Ok(entries)
+    let (_, entries) = left(alloc, &mut store, f)?;
+    Ok(entries.len())
 }
 
 #[test]
 fn a_stopped_append_is_there_whole_or_not(rt: HostRuntime) -> Result<(), Fail> {
-    let alloc = rt.alloc();
     let table = [
         (1, Outcome::Kept, 0),
         (1, Outcome::Lost, 0),
@@ -106,34 +170,32 @@ fn a_stopped_append_is_there_whole_or_not(rt: HostRuntime) -> Result<(), Fail> {
     ];
     for (call, outcome, count) in table {
         assert!(rt; call >= 1);
-        let entries = after_stop(alloc, call, outcome)?;
-        assert_eq!(rt; entries.as_slice().len(), count, "at {call} {outcome:?}");
+        assert_eq!(rt;
+            after_stop(rt.alloc(), call, outcome)?,
+            count,
+            "at {call} {outcome:?}"
+        );
     }
     Ok(())
 }
 
 #[test]
-fn appends_are_read_again_from_a_folder(rt: HostRuntime) -> Result<(), Fail> {
+fn entries_of_megabytes_are_kept_and_cleared(rt: HostRuntime) -> Result<(), Fail> {
     let alloc = rt.alloc();
-    let path = "gate_log_test";
-    let _ = fs::remove_dir_all(&rt, path);
-    fs::create_dir(&rt, path)?;
-    fs::write(&rt, "gate_log_test/0", [0].as_slice())?;
-    let f = FileNo::new(0).ok_or("a file")?;
-    let mut store = FileStore::new(rt.clone()?, String::from_str(alloc, path)?);
-    let (mut log, entries) = GateLog::load(alloc, &mut store, f)?;
-    assert_eq!(rt; entries.as_slice().len(), 0);
-    log.reserve(&mut store, 3)?;
-    log.append(&mut store, b"one")?;
-    log.reserve(&mut store, 0)?;
-    log.append(&mut store, b"")?;
-    let mut second = FileStore::new(rt.clone()?, String::from_str(alloc, path)?);
-    let (_, entries) = GateLog::load(alloc, &mut second, f)?;
-    assert_eq!(rt; entries.as_slice().len(), 2);
-    assert_eq!(rt; entries.as_slice()[0].as_slice(), b"one".as_slice());
-    assert_eq!(rt; entries.as_slice()[1].as_slice(), b"".as_slice());
-    assert_eq!(rt; second.faults(), 0);
-    fs::remove_dir_all(&rt, path)?;
+    let f = FileNo::new(1).ok_or("a file")?;
+    let large = vec![in alloc; 0x5a; 1_500_000]?;
+    let mut store = MemStore::formatted(alloc)?;
+    assert!(rt; append(alloc, &mut store, f, &large, 5, Outcome::Torn)?);
+    assert!(rt; append(alloc, &mut store, f, b"ab", 5, Outcome::Torn)?);
+    let (_, entries) = left(alloc, &mut store, f)?;
+    assert_eq!(rt; entries.len(), 2);
+    assert!(rt; entries.entry(0) == large.as_slice());
+    assert_eq!(rt; entries.entry(1), b"ab".as_slice());
+    clear(alloc, &mut store, f)?;
+    assert!(rt; append(alloc, &mut store, f, b"c", 5, Outcome::Torn)?);
+    let (_, entries) = left(alloc, &mut store, f)?;
+    assert_eq!(rt; entries.len(), 1);
+    assert_eq!(rt; entries.entry(0), b"c".as_slice());
     Ok(())
 }
 
@@ -142,7 +204,7 @@ fn a_file_past_64_mib_is_full(rt: HostRuntime) -> Result<(), Fail> {
     let alloc = rt.alloc();
     let f = FileNo::new(1).ok_or("a file")?;
     let mut store = MemStore::formatted(alloc)?;
-    let (mut log, _) = GateLog::load(alloc, &mut store, f)?;
+    let (mut log, _) = left(alloc, &mut store, f)?;
     assert_eq!(rt; log.reserve(&mut store, 67_108_859), Err(GateError::Full));
     assert_eq!(rt; log.reserve(&mut store, 1_000), Ok(()));
     Ok(())

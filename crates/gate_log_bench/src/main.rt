@@ -1,11 +1,13 @@
 //! Appends to a log over a folder. With no words it appends a few entries, reads them again and removes the folder.
-//! `append FOLDER COUNT` appends entries of 100 bytes and writes how many microseconds that took; `read FOLDER` writes
-//! what is there.
+//! `append FOLDER COUNT` appends entries of 100 bytes and writes how many microseconds that took; `serve FOLDER COUNT`
+//! writes the number of each entry behind its append; `fill FOLDER COUNT` appends entries of 1 MiB; `load FOLDER` writes
+//! how many microseconds a load took, and `read FOLDER` what is there.
 #![tactic(auto)]
 
 use anyhow::{Result, bail};
-use cs_store::{FileNo, FileStore};
-use gate_log::{Entries, GateError, GateLog};
+use cs_store::FileNo;
+use folder_store::FileStore;
+use gate_log::{Entries, GateLog};
 use std::time::Instant;
 use std::{env, fs};
 
@@ -23,56 +25,108 @@ fn main(rt: HostRuntime) -> Result<()> {
     match command {
         "sample" => {
             let _ = fs::remove_dir_all(&rt, SAMPLE);
-            append(&rt, SAMPLE, count)?;
+            append(&rt, SAMPLE, &ENTRY, count)?;
             read(&rt, SAMPLE)?;
             fs::remove_dir_all(&rt, SAMPLE)?;
         }
         "append" => {
             let start = Instant::now(&rt)?;
-            append(&rt, folder, count)?;
+            append(&rt, folder, &ENTRY, count)?;
             let micros = start.elapsed(&rt)?.as_micros();
             println!(rt; "{micros}")?;
         }
+        "serve" => serve(&rt, folder, count)?,
+        "fill" => {
+            let entry = vec![in rt.alloc(); 0x5a; 1 << 20]?;
+            append(&rt, folder, &entry, count)?;
+        }
+        "load" => load(&rt, folder)?,
         "read" => read(&rt, folder)?,
-        _ => bail!("append FOLDER COUNT, read FOLDER, or no words"),
+        _ => bail!("append, serve or fill FOLDER COUNT, load or read FOLDER, or no words"),
     }
     Ok(())
 }
 
-/// Appends so many entries to the log in a folder, which is made if it is missing.
-fn append(rt: &HostRuntime, folder: &str, count: u32) -> Result<()> {
-    let mut store = open(rt, folder)?;
-    let file = log_file()?;
-    let (mut log, _) = GateLog::load(rt.alloc(), &mut store, file)?;
+/// The log in a folder, which is made if it is missing.
+fn open(rt: &HostRuntime, folder: &str) -> Result<(FileStore<HostRuntime>, GateLog, Entries)> {
+    let mut store = FileStore::open(rt.clone()?, folder)?;
+    let (log, entries) = GateLog::load(rt.alloc(), &mut store, log_file()?)?;
+    Ok((store, log, entries))
+}
+
+/// Appends an entry so many times.
+fn append(rt: &HostRuntime, folder: &str, entry: &[u8], count: u32) -> Result<()> {
+    let len = u32::try_from(entry.len())?;
+    let (mut store, mut log, _) = open(rt, folder)?;
     for _ in 0..count {
-        log.reserve(&mut store, 100)?;
-        log.append(&mut store, &ENTRY)?;
+        append_one(&mut store, &mut log, entry, len)?;
     }
     Ok(())
 }
 
-/// Writes how many entries the log has, and how many bytes they are.
+fn append_one(
+    store: &mut FileStore<HostRuntime>,
+    log: &mut GateLog,
+    entry: &[u8],
+    len: u32,
+) -> Result<()> {
+    if entry.len() != len as usize {
+        bail!("an entry too long");
+    }
+    log.reserve(store, len)?;
+    log.append(store, entry)?;
+    Ok(())
+}
+
+/// Appends entries of 100 bytes, whose first four are their number, and tells each one that is acknowledged.
+fn serve(rt: &HostRuntime, folder: &str, count: u32) -> Result<()> {
+    let (mut store, mut log, entries) = open(rt, folder)?;
+    let there = u32::try_from(entries.len())?;
+    for number in there..there.saturating_add(count) {
+        let mut entry = ENTRY;
+        entry[..4].copy_from_slice(&number.to_be_bytes());
+        append_one(&mut store, &mut log, &entry, 100)?;
+        println!(rt; "{number}")?;
+    }
+    Ok(())
+}
+
+/// Writes how long a load took, and how many bytes the entries are.
+fn load(rt: &HostRuntime, folder: &str) -> Result<()> {
+    let mut store = FileStore::open(rt.clone()?, folder)?;
+    let start = Instant::now(rt)?;
+    let (log, entries) = GateLog::load(rt.alloc(), &mut store, log_file()?)?;
+    let micros = start.elapsed(rt)?.as_micros();
+    println!(rt; "{micros} {} {}", entries.len(), log.len())?;
+    Ok(())
+}
+
+/// Writes how many entries the log has, and how many of them are neither those of the bench nor in their order.
 fn read(rt: &HostRuntime, folder: &str) -> Result<()> {
-    let mut store = open(rt, folder)?;
-    let (_, entries) = GateLog::load(rt.alloc(), &mut store, log_file()?)?;
-    let count = entries.as_slice().len();
-    let wrong = entries
-        .as_slice()
-        .iter()
-        .filter(|entry| entry.as_slice() != ENTRY.as_slice())
-        .count();
+    let (_, _, entries) = open(rt, folder)?;
+    let count = entries.len();
+    let mut wrong = 0u32;
+    for i in 0..count {
+        if !is_right(&entries, i) {
+            wrong = wrong.saturating_add(1);
+        }
+    }
     println!(rt; "{count} entries, {wrong} of them wrong")?;
     Ok(())
 }
 
-fn open(rt: &HostRuntime, folder: &str) -> Result<FileStore<HostRuntime>> {
-    let path = String::from_str(rt.alloc(), folder)?;
-    let first = format!(in rt.alloc(); "{folder}/0")?;
-    if !fs::exists(rt, first.as_str())? {
-        fs::create_dir_all(rt, folder)?;
-        fs::write(rt, first.as_str(), [0].as_slice())?;
+fn is_right(entries: &Entries, i: usize) -> bool {
+    if i >= entries.len() {
+        return false;
     }
-    Ok(FileStore::new(rt.clone()?, path))
+    let entry = entries.entry(i);
+    if entry == ENTRY.as_slice() {
+        return true;
+    }
+    match (entry.split_first_chunk::<4>(), u32::try_from(i)) {
+        (Some((number, rest)), Ok(i)) => { *number == i.to_be_bytes() && rest == &ENTRY[4..] }
+        _ => false,
+    }
 }
 
 fn log_file() -> Result<FileNo> {

@@ -1,5 +1,5 @@
 use Rattle.std.proofs.Common.{◌≡◌, ℕ, ◌<◌, length, slice_index_or, None, false, is_none}
-use Rattle.cs_store.specs.MemFile.{formatted_bytes}
+use Rattle.cs_store.specs.Images.{formatted_bytes}
 use Rattle.cs_store.specs.MemStores.{seen_in}
 use Rattle.cs_store.proofs.format.format_stores.Given as goal
 

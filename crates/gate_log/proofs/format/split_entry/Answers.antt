@@ -1,4 +1,4 @@
-use Rattle.gate_log.proofs.Entries.{some_then, parts_of}
+use Rattle.gate_log.proofs.Spellings.{some_then, parts_of}
 use Rattle.gate_log.proofs.format.split_entry.Goals as goal
 
 pub returns-clause-parts : goal.returns-clause-parts

@@ -1,5 +1,5 @@
 use Rattle.cs_store.proofs.Calls.{call_passes}
-use Rattle.cs_store.proofs.Moments.{cut_none}
+use Rattle.cs_store.proofs.Crashes.{cut_none}
 use Rattle.cs_store.proofs.mem.MemStoreStore.cut.Goals as goal
 
 pub returns-clause-crash : goal.returns-clause-crash

@@ -1,5 +1,5 @@
 use Rattle.cs_store.proofs.Calls.{call_passes}
-use Rattle.cs_store.proofs.Moments.{torn_none}
+use Rattle.cs_store.proofs.Crashes.{torn_none}
 use Rattle.cs_store.proofs.mem.MemStoreStore.write_at.Goals as goal
 
 pub returns-clause-crash : goal.returns-clause-crash
