@@ -1,0 +1,3 @@
+pub mod Notations
+pub mod Reading
+pub mod Spelling

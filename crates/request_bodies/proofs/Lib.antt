@@ -1,0 +1,5 @@
+pub mod Skipping
+pub mod Words
+pub mod Flags
+pub mod Spelled
+pub mod Respelled
