@@ -89,37 +89,7 @@ filter_map_more {X} {Y} f xs x y = (
   ]),
 )
 
--- ---- keys and entries in order, where keys that compare alike are one
-
-key_cases : {K : Type 0} (o : Ordering) (k x y : K) (xs more : List K) → (o ≡ Equal → k ≡ x) → (Contains more y → (y ≡ k) ⊎ Contains xs y) → Contains (match_ordering o (k ∷ x ∷ xs) (x ∷ xs) (x ∷ more)) y → (y ≡ k) ⊎ Contains (x ∷ xs) y
-key_cases Less k x y xs more e rest h = elim (contains_cases k (x ∷ xs) y h) [ inl same ↦ inl (sym same) | inr old ↦ inr old ]
-key_cases Equal k x y xs more e rest h = inr h
-key_cases {K} Greater k x y xs more e rest h =
-    elim (contains_cases x more y h) [
-      | inl same ↦ inr (subst (λ (v : K). Contains (x ∷ xs) v) same (contains_here x xs))
-      | inr later ↦ elim (rest later) [ inl same ↦ inl same | inr old ↦ inr (contains_there x xs y old) ]
-    ]
-
-key_kept : {K : Type 0} (o : Ordering) (k x y : K) (xs more : List K) → (o ≡ Equal → k ≡ x) → ((y ≡ k) ⊎ Contains xs y → Contains more y) → (y ≡ k) ⊎ Contains (x ∷ xs) y → Contains (match_ordering o (k ∷ x ∷ xs) (x ∷ xs) (x ∷ more)) y
-key_kept {K} Less k x y xs more e rest (inl same) = subst (λ (v : K). Contains (k ∷ x ∷ xs) v) (sym same) (contains_here k (x ∷ xs))
-key_kept Less k x y xs more e rest (inr old) = contains_there k (x ∷ xs) y old
-key_kept {K} Equal k x y xs more e rest (inl same) = subst (λ (v : K). Contains (x ∷ xs) v) (sym (same ∙ e refl)) (contains_here x xs)
-key_kept Equal k x y xs more e rest (inr old) = old
-key_kept Greater k x y xs more e rest (inl same) = contains_there x more y (rest (inl same))
-key_kept {K} Greater k x y xs more e rest (inr old) =
-    elim (contains_cases x xs y old) [
-      | inl same ↦ subst (λ (v : K). Contains (x ∷ more) v) same (contains_here x more)
-      | inr later ↦ contains_there x more y (rest (inr later))
-    ]
-
-pub contains_insert_key : {K : Type 0} (cmp : K → K → Ordering) → ((a b : K) → cmp a b ≡ Equal → a ≡ b) → (ks : List K) (k y : K) → Contains (insert_key cmp ks k) y ↔ ((y ≡ k) ⊎ Contains ks y)
-contains_insert_key {K} cmp exact [] k y = (
-  λ h. inl (sym (contains_one k y h)),
-  λ h. elim h [ inl same ↦ subst (λ (v : K). Contains (k ∷ []) v) (sym same) (contains_here k []) | inr none ↦ absurd (contains_nil y none) ],
-)
-contains_insert_key cmp exact (x ∷ xs) k y =
-    let rest = contains_insert_key cmp exact xs k y in
-    (λ h. key_cases (cmp k x) k x y xs (insert_key cmp xs k) (exact k x) rest.0 h, λ h. key_kept (cmp k x) k x y xs (insert_key cmp xs k) (exact k x) rest.1 h)
+-- ---- entries in order, where keys that compare alike are one
 
 entry_cases : {K V : Type 0} (o : Ordering) (k : K) (v : V) (e y : K × V) (es more : List (K × V)) → (o ≡ Equal → k ≡ e.0) → (Contains more y → (y ≡ (k, v)) ⊎ Contains es y) → Contains (match_ordering o ((k, v) ∷ e ∷ es) ((e.0, v) ∷ es) (e ∷ more)) y → (y ≡ (k, v)) ⊎ Contains (e ∷ es) y
 entry_cases {K} {V} Less k v e y es more same rest h = elim (contains_cases {X = K × V} (k, v) (e ∷ es) y h) [ inl new ↦ inl (sym new) | inr old ↦ inr old ]

@@ -206,6 +206,37 @@ fn is_long_alone(alloc: Global, padding: usize) -> Result<bool, AllocError> {
     Ok(is_long(&mutation_of(alloc, changes)?))
 }
 
+/// Whether it is too long with so many bytes in a value of a timestamp of its own, and so many in one without.
+fn is_long_twice(alloc: Global, own: usize, started: usize) -> Result<bool, AllocError> {
+    let mut changes = Items::new(alloc);
+    changes.push(Draft {
+        timestamp: Some(1),
+        ..padded_cell(alloc, own)?
+    })?;
+    changes.push(padded_cell(alloc, started)?)?;
+    Ok(is_long(&mutation_of(alloc, changes)?))
+}
+
+#[test]
+fn the_longer_of_one_place_counts(rt: HostRuntime) -> Result<(), Fail> {
+    let alloc = rt.alloc();
+    let cases = [
+        (4_194_248, 9, false),
+        (9, 4_194_248, false),
+        (4_194_248, 4_194_248, false),
+        (4_194_249, 9, true),
+        (9, 4_194_249, true),
+    ];
+    for (own, started, expected) in cases {
+        assert_eq!(rt;
+            is_long_twice(alloc, own, started)?,
+            expected,
+            "{own} {started}"
+        );
+    }
+    Ok(())
+}
+
 /// Whether it is too long beside a change of the kind.
 fn is_long_beside(alloc: Global, kind: Kind, padding: usize) -> Result<bool, AllocError> {
     let mut changes = Items::new(alloc);

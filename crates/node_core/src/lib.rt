@@ -2,6 +2,7 @@
 #![tactic(auto)]
 
 mod contents;
+mod held;
 mod kept;
 mod node;
 mod requests;

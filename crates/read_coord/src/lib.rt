@@ -149,17 +149,15 @@ impl ReadCoord {
         &self,
         alloc: Global,
         from: NodeId,
-        mut content: Content,
+        content: Content,
     ) -> Result<Gathered, AllocError>
         ensures { IfOk result (IsGathered self.now from content) }
     {
         let mut heard = copy_nodes(alloc, self.heard.as_slice())?;
         heard.push(from)?;
-        content.merge(&self.merged)?;
-        Ok(Gathered {
-            heard,
-            merged: content,
-        })
+        let before = self.merged.copy(alloc)?;
+        let merged = content.merge(alloc, before)?;
+        Ok(Gathered { heard, merged })
     }
 
     fn keep(&mut self, gathered: Gathered)

@@ -19,9 +19,7 @@ fn content(alloc: Global, request: ReqId, row: &str, timestamp: i64) -> Result<C
         submitted: Micros::new(1),
         request,
     })?;
-    let mut content = Content::new(alloc);
-    content.apply(&changes)?;
-    Ok(content)
+    Ok(Content::from_changes(alloc, changes.into_vec())?)
 }
 
 fn node(number: u8) -> Result<NodeId, Fail> {

@@ -1,12 +1,13 @@
 //! Queries of ten rows from the middle of one partition on, one cell a row, half of them reversed. With no words it prints
 //! what two queries show of forty cells; `time CELLS QUERIES` makes a partition of so many cells, runs so many queries, and
-//! writes how many microseconds the queries took.
+//! writes how many microseconds the queries took; `merge CELLS TIMESTAMP` merges two contents of so many cells, the one written
+//! at the timestamp 1 and the other at this one, and writes how many microseconds that took.
 #![tactic(auto)]
 
 use anyhow::{Result, bail};
 use cell_merge::Content;
-use changes::{Bound, Held, Helds, Partition, Place, Query, ShownRow};
-use cs_base::{Bytes, Items, Micros, NodeId, ReqId};
+use changes::{Bound, Held, Partition, Place, Query, ShownRow};
+use cs_base::{Bytes, Micros, NodeId, ReqId};
 use row_select::shown;
 use std::alloc::{AllocError, Global};
 use std::env;
@@ -17,14 +18,15 @@ fn main(rt: HostRuntime) -> Result<()> {
     let command = words.get(1).map_or("sample", |word| word.as_str());
     let cells: u32 = words.get(2).map_or("40", |word| word.as_str()).parse()?;
     let queries: u32 = words.get(3).map_or("2", |word| word.as_str()).parse()?;
-    let content = content_of(rt.alloc(), cells)?;
     match command {
         "sample" => {
+            let content = content_of(rt.alloc(), cells, 1)?;
             for number in 0..queries {
                 println!(rt; "{}", shown_line(rt.alloc(), &content, number)?)?;
             }
         }
         "time" => {
+            let content = content_of(rt.alloc(), cells, 1)?;
             let start = Instant::now(&rt)?;
             let rows = run_queries(rt.alloc(), &content, queries)?;
             let micros = start.elapsed(&rt)?.as_micros();
@@ -33,35 +35,44 @@ fn main(rt: HostRuntime) -> Result<()> {
             }
             println!(rt; "{micros}")?;
         }
-        _ => bail!("time CELLS QUERIES, or no words"),
+        "merge" => {
+            let first = content_of(rt.alloc(), cells, 1)?;
+            let second = content_of(rt.alloc(), cells, i64::from(queries))?;
+            let start = Instant::now(&rt)?;
+            let merged = first.merge(rt.alloc(), second)?;
+            let micros = start.elapsed(&rt)?.as_micros();
+            if merged.is_empty() {
+                bail!("no cells");
+            }
+            println!(rt; "{micros}")?;
+        }
+        _ => bail!("time CELLS QUERIES, merge CELLS TIMESTAMP, or no words"),
     }
     Ok(())
 }
 
 /// A content of so many cells, each in a row of its own.
-fn content_of(alloc: Global, cells: u32) -> Result<Content, AllocError> {
-    let mut content = Content::new(alloc);
+fn content_of(alloc: Global, cells: u32, timestamp: i64) -> Result<Content, AllocError> {
+    let mut changes = Vec::new(alloc);
     for at in 0..cells {
-        content.apply(&one_cell(alloc, at)?)?;
+        changes.push(one_cell(alloc, at, timestamp)?)?;
     }
-    Ok(content)
+    Content::from_changes(alloc, changes)
 }
 
 /// A cell in a row with a name of four bytes; the factor is odd, so that each number has a row of its own, and spreads them.
-fn one_cell(alloc: Global, at: u32) -> Result<Helds, AllocError> {
+fn one_cell(alloc: Global, at: u32, timestamp: i64) -> Result<Held, AllocError> {
     let name = at.wrapping_mul(2654435761).to_be_bytes();
-    let mut changes = Items::new(alloc);
-    changes.push(Held {
+    Ok(Held {
         place: Place::Cell(Bytes::from_slice(alloc, &name)?, 1),
         value: Some(Bytes::from_slice(alloc, b"value")?),
-        timestamp: i64::from(at),
+        timestamp,
         submitted: Micros::new(1),
         request: ReqId {
             node: NodeId::FIRST,
             time: Micros::new(1),
         },
-    })?;
-    Ok(changes)
+    })
 }
 
 /// The query of ten rows from a little behind the middle to the end; every second one is reversed.

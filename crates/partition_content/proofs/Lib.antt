@@ -1,0 +1,9 @@
+mod SpotLemmas
+mod SlotLemmas
+mod OrderLemmas
+mod PutLemmas
+mod ReachLemmas
+mod ContentLemmas
+mod ClearLemmas
+mod MemoryLemmas
+mod ReadLemmas

@@ -1,0 +1,6 @@
+pub mod Spots
+pub mod SpotLaws
+pub mod Slots
+pub mod Keys
+pub mod Partition
+pub mod Reading
