@@ -317,6 +317,7 @@ impl Notation for Option<Bytes> {
         read_bytes(alloc, bytes)
     }
 
+    #[inline(always)]
     fn write(&self, out: &mut Vec<u8>) -> Result<(), AllocError> {
         write_bytes(out, self)
     }

@@ -74,6 +74,7 @@ pub fn write_short_bytes(out: &mut Vec<u8>, content: &Bytes) -> Result<(), Alloc
     out.extend_from_slice(content)
 }
 
+#[inline(always)]
 fn write_content(out: &mut Vec<u8>, content: &[u8]) -> Result<(), AllocError>
     requires { FitsInt content.now }
     ensures { OnOk result (out.new.items ≡ out.old.items ++ long_string content.now) }
@@ -83,6 +84,7 @@ fn write_content(out: &mut Vec<u8>, content: &[u8]) -> Result<(), AllocError>
 }
 
 /// [bytes], of which `None` is null.
+#[inline(always)]
 pub fn write_bytes(out: &mut Vec<u8>, content: &Option<Bytes>) -> Result<(), AllocError>
     requires { BytesFit content.now }
     ensures { OnOk result (out.new.items ≡ out.old.items ++ bytes_or_null content.now) }

@@ -1,13 +1,10 @@
-pub mod RankLaws
-pub mod Standing
-pub mod TestLaws
-pub mod StandLaws
-pub mod RowLaws
-pub mod EdgeLaws
-pub mod WalkLaws
-pub mod StateLaws
-pub mod FiledLaws
-pub mod SweepLaws
-pub mod KeptLaws
-pub mod AmongLaws
-pub mod PlainLaws
+mod InOrder
+mod WalkLaws
+mod SliceLaws
+mod MergeLaws
+mod Decided
+mod Parts
+mod PlaceOrder
+mod RangeLaws
+mod RankingLaws
+mod Settled

@@ -1,174 +1,418 @@
--- Entries of a map of rows: between bounds, copied, and named.
-use Rattle.std.proofs.Common.{◌≡◌, ℕ, ◌⊎◌, inl, inr, Bool, true, false, not, cond, ◌&&◌, List, [], ◌∷◌, ◌++◌, Option, Some, None, IsSome, Vec, Global, Contains, filter, refl, sym, ◌∙◌, ap, subst, append_assoc}
-use Rattle.std.specs.List.{AllByRecursion}
+-- Changes in order, row by row.
+use Rattle.std.proofs.Common.{◌≡◌, ◌≢◌, ℕ, ◌-◌, ◌<◌, ◌≤◌, ◌⊎◌, inl, inr, zero, suc, Bool, true, false, if◌then◌else◌, Option, Some, None, IsSome, List, [], ◌∷◌, ◌++◌, reverse, append-nil, filter, length, get_or, take, drop, refl, sym, ◌∙◌, ap, subst, arith, Contains}
+use Rattle.std.specs.List.{AllByRecursion, HoldsAt}
 use Rattle.std.specs.List.Sorted.{IsStrictlySortedBy}
-use Rattle.std.specs.Map.{keys_of, lookup}
-use Rattle.std.specs.BTreeMap.{get, insert_entry}
-use Rattle.std.specs.Ordering.{is_lt, is_le, is_gt, match_ordering, ordering_reverse}
+use Rattle.std.specs.Cmp.{IsTotalOrder}
+use Rattle.std.specs.Prelude.{slice_get}
+use Rattle.std.specs.Ordering.{is_eq, is_lt}
 use Rattle.std.specs.declared.cmp.Ordering.{Ordering}
-use Rattle.std.specs.declared.cmp.Ordering.TheVariants.{Less, Equal, Greater}
-use Rattle.std.proofs.lemmas.Bool.{both_ways, and_parts, false_from_ne_true}
-use Rattle.std.proofs.lemmas.Cmp.{nat_list_cmp_total, tied_itself}
-use Rattle.std.proofs.lemmas.Map.Keys.{sorted_head, sorted_tail}
+use Rattle.std.specs.declared.cmp.Ordering.TheVariants.{Less, Equal}
+use Rattle.std.proofs.lemmas.Bool.{cases_lt, and_parts, and_from}
+use Rattle.std.proofs.lemmas.Option.{slice_get_within, get_or_from_slice_get}
+use Rattle.std.proofs.lemmas.Cmp.{on_total, tied_itself}
+use Rattle.std.proofs.lemmas.List.{take-append-drop, length-drop, reverse-append}
+use Rattle.std.proofs.lemmas.List.Elements.{All-contains, All-take, All-drop, All-weaker, filter_passes}
+use Rattle.std.proofs.lemmas.List.Kept.{IsStrictlySortedBy-filter}
 use Rattle.changes.specs.declared.Bound.{Bound}
 use Rattle.changes.specs.declared.Held.{Held}
 use Rattle.changes.specs.declared.Place.{Place}
-use Rattle.changes.specs.declared.Place.TheVariants.{RangeGone, RowGone}
-use Rattle.changes.specs.Order.{IsBetween, Encloses}
-use Rattle.change_laws.proofs.Members.{contains_nil, contains_here, contains_there, contains_cases, contains_map}
-use Rattle.cell_merge.specs.Tests.{is_between_by}
-use Rattle.cell_merge.specs.Rows.{RowMap, bytes_cmp, is_row, entry_shown, shown_of, HaveBytes}
-use Rattle.cell_merge.specs.Edges.{edge_of, is_below_edge, is_in_span}
-use Rattle.cell_merge.proofs.TestLaws.{between_true}
-use Rattle.cell_merge.proofs.EdgeLaws.{is_from_edge, between_edges}
-use Rattle.cell_merge.proofs.RowLaws.{same_row}
+use Rattle.changes.specs.declared.Place.TheVariants.{Cell, Marker, RowGone, RangeGone, PartGone}
+use Rattle.changes.specs.Queries.{MeetsBounds}
+use Rattle.changes.specs.Order.{row_of, row_signs, IsBetween}
+use Rattle.changes.specs.Places.{AreInOrder, stored_cmp}
+use Rattle.changes.specs.Shown.{row_cmp}
+use Rattle.changes.specs.Totals.{signs_total}
+use Rattle.changes.proofs.Orderings.{cases_ordering, equal_is, bytes_exact}
+use Rattle.changes.proofs.Signs.{rows_by_bytes}
+use Rattle.changes.proofs.Sorted.{all_at, all_from, one_at}
+use Rattle.cs_base.proofs.Members.{contains_nil, contains_here, contains_there, contains_cases, contains_one, contains_map, contains_filter, contains_from_filter}
+use Rattle.cell_merge.specs.Ranges.{AllInRows, IsInRow}
+use Rattle.cell_merge.specs.Walks.{row_named, row_at, with_change, by_rows, in_direction, AreOfRows, AllOf, IsNotOf, IsFirstRow, IsLastRow, names_of, IsGroupOf, AreRowsBetween}
+use Rattle.cell_merge.proofs.InOrder.{sorted_front, sorted_back}
+use Rattle.cell_merge.specs.Tests.{is_behind_bound, is_before_bound}
+use Rattle.cell_merge.proofs.PlaceOrder.{rows_rise, behind_of, before_of}
+use Rattle.cell_merge.proofs.SliceLaws.{is_between, between_meets}
 
-filter_there : {X : Type 0} (p : X → Bool) (y : X) (ys : List X) (x : X) → Contains (filter p ys) x → Contains (filter p (y ∷ ys)) x
-filter_there p y ys x h = elim (p y) as (λ b. Contains (cond b (y ∷ filter p ys) (filter p ys)) x) [ true ↦ contains_there y (filter p ys) x h | false ↦ h ]
+abbrev pub Group : Type 0
+Group = List ℕ × List Held
 
-pub contains_filter : {X : Type 0} (p : X → Bool) (xs : List X) (x : X) → Contains xs x → p x ≡ true → Contains (filter p xs) x
-contains_filter p [] x h t = h
-contains_filter p (y ∷ ys) x h t =
-    elim (contains_cases y ys x h) [
-      | inl e ↦ rw (ap p e ∙ t) (subst (λ (v : _). Contains (y ∷ filter p ys) v) e (contains_here y (filter p ys)))
-      | inr rest ↦ filter_there p y ys x (contains_filter p ys x rest t)
+pub rows_total : IsTotalOrder row_cmp
+rows_total = on_total row_signs signs_total
+
+row_exact : (a b : List ℕ) → row_cmp a b ≡ Equal → a ≡ b
+row_exact a b e = bytes_exact a b (sym (rows_by_bytes a b) ∙ e)
+
+row_is : (x : Held) (r : List ℕ) → row_of x.place ≡ Some r → row_at x ≡ r
+row_is x r h = ap row_named h
+
+in_some : (o : Option (List ℕ)) → IsSome o → o ≡ Some (row_named o)
+in_some None h = cc
+in_some (Some r) h = refl
+
+same_row : (r : List ℕ) → is_eq (row_cmp r r) ≡ true
+same_row r = ap is_eq (tied_itself rows_total r)
+
+other_row : (a b : List ℕ) → (a ≡ b → ⊥) → is_eq (row_cmp a b) ≡ false
+other_row a b n = elim (cases_ordering (row_cmp a b)) [
+  | inl less ↦ ap is_eq less
+  | inr (inl equal) ↦ absurd (n (row_exact a b equal))
+  | inr (inr greater) ↦ ap is_eq greater
+]
+
+-- ---- the first row
+
+with_same : (x : Held) (g : Group) (groups : List Group) → is_eq (row_cmp (row_at x) g.0) ≡ true → with_change x (g ∷ groups) ≡ (g.0, x ∷ g.1) ∷ groups
+with_same x g groups e = ap (λ (b : Bool). if b then (g.0, x ∷ g.1) ∷ groups else (row_at x, x ∷ []) ∷ g ∷ groups) e
+
+with_other : (x : Held) (g : Group) (groups : List Group) → is_eq (row_cmp (row_at x) g.0) ≡ false → with_change x (g ∷ groups) ≡ (row_at x, x ∷ []) ∷ g ∷ groups
+with_other x g groups e = ap (λ (b : Bool). if b then (g.0, x ∷ g.1) ∷ groups else (row_at x, x ∷ []) ∷ g ∷ groups) e
+
+-- changes have a first row, that of the first of them
+head_at : (b : Bool) (y : Held) (g : Group) (groups : List Group) → is_eq (row_cmp (row_at y) g.0) ≡ b → (h : Group) × (more : List Group) × (with_change y (g ∷ groups) ≡ h ∷ more) × (h.0 ≡ row_at y)
+head_at true y g groups e = ((g.0, y ∷ g.1), groups, with_same y g groups e, sym (row_exact (row_at y) g.0 (equal_is (row_cmp (row_at y) g.0) e)))
+head_at false y g groups e = ((row_at y, y ∷ []), g ∷ groups, with_other y g groups e, refl)
+
+head_of : (y : Held) (groups : List Group) → (h : Group) × (more : List Group) × (with_change y groups ≡ h ∷ more) × (h.0 ≡ row_at y)
+head_of y [] = ((row_at y, y ∷ []), [], refl, refl)
+head_of y (g ∷ groups) = head_at (is_eq (row_cmp (row_at y) g.0)) y g groups refl
+
+-- none, or the first is not of the row
+abbrev StartsOther : List ℕ → List Held → Type 0
+StartsOther r [] = Unit {0}
+StartsOther r (y ∷ ys) = row_at y ≡ r → ⊥
+
+one_row : (x : Held) (r : List ℕ) (rest : List Held) → row_at x ≡ r → StartsOther r rest → by_rows (x ∷ rest) ≡ (r, x ∷ []) ∷ by_rows rest
+one_row x r [] e n = ap (λ (a : List ℕ). let g : List ℕ × List Held = (a, x ∷ []) in g ∷ []) e
+one_row x r (y ∷ ys) e n =
+    let h = head_of y (by_rows ys) in
+    let apart : row_at x ≡ h.0.0 → ⊥ = λ same. n (sym h.3 ∙ sym same ∙ e) in
+    ap (with_change x) h.2 ∙ with_other x h.0 h.1 (other_row (row_at x) h.0.0 apart) ∙ ap (λ (l : List Group). (row_at x, x ∷ []) ∷ l) (sym h.2)
+    ∙ ap (λ (a : List ℕ). let g : List ℕ × List Held = (a, x ∷ []) in g ∷ by_rows (y ∷ ys)) e
+
+front_rows : (x : Held) (front rest : List Held) (r : List ℕ) → AllByRecursion (λ y. row_at y ≡ r) (x ∷ front) → StartsOther r rest → by_rows ((x ∷ front) ++ rest) ≡ (r, x ∷ front) ∷ by_rows rest
+front_rows x [] rest r all n = one_row x r rest all.0 n
+front_rows x (y ∷ front) rest r all n =
+    ap (with_change x) (front_rows y front rest r all.1 n)
+    ∙ with_same x (r, y ∷ front) (by_rows rest) (ap (λ (a : List ℕ). is_eq (row_cmp a r)) all.0 ∙ same_row r)
+
+-- ---- the last row
+
+-- none, or the last is not of the row
+abbrev EndsOther : List ℕ → List Held → Type 0
+EndsOther r [] = Unit {0}
+EndsOther r (x ∷ []) = row_at x ≡ r → ⊥
+EndsOther r (x ∷ y ∷ ys) = EndsOther r (y ∷ ys)
+
+with_more : (x : Held) (g : Group) (groups more : List Group) → with_change x ((g ∷ groups) ++ more) ≡ with_change x (g ∷ groups) ++ more
+with_more x g groups more =
+    elim (is_eq (row_cmp (row_at x) g.0)) as (λ b. (if b then (g.0, x ∷ g.1) ∷ (groups ++ more) else (row_at x, x ∷ []) ∷ g ∷ (groups ++ more)) ≡ (if b then (g.0, x ∷ g.1) ∷ groups else (row_at x, x ∷ []) ∷ g ∷ groups) ++ more) [
+      | true ↦ refl
+      | false ↦ refl
     ]
 
-from_filter_at : {X : Type 0} (p : X → Bool) (y : X) (ys : List X) (x : X) (b : Bool) → p y ≡ b → (Contains (filter p ys) x → Contains ys x × (p x ≡ true)) → Contains (cond b (y ∷ filter p ys) (filter p ys)) x → Contains (y ∷ ys) x × (p x ≡ true)
-from_filter_at p y ys x true e rest h =
-    elim (contains_cases y (filter p ys) x h) [
-      | inl same ↦ (subst (λ (v : _). Contains (y ∷ ys) v) same (contains_here y ys), sym (ap p same) ∙ e)
-      | inr more ↦ let r = rest more in (contains_there y ys x r.0, r.1)
-    ]
-from_filter_at p y ys x false e rest h = let r = rest h in (contains_there y ys x r.0, r.1)
+back_rows : (rest : List Held) (z : Held) (back : List Held) (r : List ℕ) → AllByRecursion (λ y. row_at y ≡ r) (z ∷ back) → EndsOther r rest → by_rows (rest ++ (z ∷ back)) ≡ by_rows rest ++ (r, z ∷ back) ∷ []
+back_rows [] z back r all n = ap by_rows (sym (append-nil (z ∷ back))) ∙ front_rows z back [] r all tt
+back_rows (x ∷ []) z back r all n =
+    ap (with_change x) (back_rows [] z back r all tt) ∙ with_other x (r, z ∷ back) [] (other_row (row_at x) r n)
+back_rows (x ∷ y ∷ ys) z back r all n =
+    let h = head_of y (by_rows ys) in
+    ap (with_change x) (back_rows (y ∷ ys) z back r all n)
+    ∙ ap (λ (l : List Group). with_change x (l ++ (r, z ∷ back) ∷ [])) h.2 ∙ with_more x h.0 h.1 ((r, z ∷ back) ∷ [])
+    ∙ ap (λ (l : List Group). with_change x l ++ (r, z ∷ back) ∷ []) (sym h.2)
 
-pub contains_from_filter : {X : Type 0} (p : X → Bool) (xs : List X) (x : X) → Contains (filter p xs) x → Contains xs x × (p x ≡ true)
-contains_from_filter p [] x h = absurd (contains_nil x h)
-contains_from_filter p (y ∷ ys) x h = from_filter_at p y ys x (p y) refl (λ k. contains_from_filter p ys x k) h
+-- ---- what the code finds
 
--- tests that answer alike of each element pass the same ones
-pub filter_alike : {X : Type 0} (p q : X → Bool) (xs : List X) → ((x : X) → Contains xs x → p x ≡ q x) → filter p xs ≡ filter q xs
-filter_alike p q [] h = refl
-filter_alike {X} p q (x ∷ xs) h =
-    ap (λ (b : Bool). cond b (x ∷ filter p xs) (filter p xs)) (h x (contains_here x xs))
-    ∙ ap (λ (l : List X). cond (q x) (x ∷ l) l) (filter_alike p q xs (λ y k. h y (contains_there x xs y k)))
+all_front : (r : List ℕ) (xs : List Held) (n : ℕ) → AllOf r xs 0 n → n ≤ length xs → AllByRecursion (λ y. row_at y ≡ r) (take n xs)
+all_front r [] zero h b = tt
+all_front r [] (suc n) h b = tt
+all_front r (x ∷ xs) zero h b = tt
+all_front r (x ∷ xs) (suc n) h b = (row_is x r (h 0 x (omega arith) (omega arith)), all_front r xs n (λ k d low below. h (suc k) d (omega arith) (omega (arith, below))) (omega (arith, b)))
 
-pub filter_whole : {X : Type 0} (xs : List X) → filter (λ (x : X). true) xs ≡ xs
-filter_whole [] = refl
-filter_whole {X} (x ∷ xs) = ap (λ (l : List X). x ∷ l) (filter_whole xs)
+all_back : (r : List ℕ) (xs : List Held) (n : ℕ) → AllOf r xs n (length xs) → AllByRecursion (λ y. row_at y ≡ r) (drop n xs)
+all_back r [] zero h = tt
+all_back r [] (suc n) h = tt
+all_back r (x ∷ xs) zero h = (row_is x r (h 0 x (omega arith) (omega arith)), all_back r xs zero (λ k d low below. h (suc k) d (omega arith) (omega (arith, below))))
+all_back r (x ∷ xs) (suc n) h = all_back r xs n (λ k d low below. h (suc k) d (omega (arith, low)) (omega (arith, below)))
 
--- ---- spans
+not_of : (x : Held) (r : List ℕ) → IsInRow x → (row_of x.place ≡ Some r → ⊥) → row_at x ≡ r → ⊥
+not_of x r some n e = n (in_some (row_of x.place) some ∙ ap (λ (a : List ℕ). Some a) e)
 
-pub not_after_itself : (at : List ℕ) → is_gt (bytes_cmp at at) ≡ false
-not_after_itself at = ap is_gt (tied_itself nat_list_cmp_total at)
+starts_other : (r : List ℕ) (xs : List Held) (n : ℕ) → AllInRows xs → (n < length xs → IsNotOf r xs n) → StartsOther r (drop n xs)
+starts_other r [] zero all h = tt
+starts_other r [] (suc n) all h = tt
+starts_other r (x ∷ xs) zero all h = not_of x r (all 0 x (omega arith)) (h (omega arith) x)
+starts_other r (x ∷ xs) (suc n) all h = starts_other r xs n (λ k d below. all (suc k) d (omega (arith, below))) (λ below d. h (omega (arith, below)) d)
 
-nowhere : (o : Ordering) → (is_le o && not (is_le o)) ≡ false
-nowhere Less = refl
-nowhere Equal = refl
-nowhere Greater = refl
+one_less : (n : ℕ) → suc n - 1 ≡ n
+one_less n = omega arith
 
-pub none_between : (at : List ℕ) (entries : List (List ℕ × Vec Held Global)) → filter {X = List ℕ × Vec Held Global} (λ e. is_le (bytes_cmp at e.0) && not (is_le (bytes_cmp at e.0))) entries ≡ filter (λ e. false) entries
-none_between at entries = filter_alike {X = List ℕ × Vec Held Global} (λ e. is_le (bytes_cmp at e.0) && not (is_le (bytes_cmp at e.0))) (λ e. false) entries (λ e k. nowhere (bytes_cmp at e.0))
+ends_other : (r : List ℕ) (xs : List Held) (n : ℕ) → AllInRows xs → n ≤ length xs → (0 < n → IsNotOf r xs (n - 1)) → EndsOther r (take n xs)
+ends_other r [] zero all b h = tt
+ends_other r [] (suc n) all b h = tt
+ends_other r (x ∷ xs) zero all b h = tt
+ends_other r (x ∷ xs) (suc zero) all b h = not_of x r (all 0 x (omega arith)) (subst (λ (k : ℕ). row_of (get_or (x ∷ xs) k x).place ≡ Some r → ⊥) (one_less zero) (h (omega arith) x))
+ends_other r (x ∷ []) (suc (suc n)) all b h = absurd (omega (arith, b))
+ends_other r (x ∷ y ∷ ys) (suc (suc n)) all b h =
+    ends_other r (y ∷ ys) (suc n) (λ k d below. all (suc k) d (omega (arith, below))) (omega (arith, b))
+    (λ some d. subst (λ (k : ℕ). row_of (get_or (y ∷ ys) k d).place ≡ Some r → ⊥) (sym (one_less n)) (subst (λ (k : ℕ). row_of (get_or (x ∷ y ∷ ys) k d).place ≡ Some r → ⊥) (one_less (suc n)) (h (omega arith) d)))
 
-le_cases : (o : Ordering) → is_le o ≡ true → (o ≡ Less) ⊎ (o ≡ Equal)
-le_cases Less h = inl refl
-le_cases Equal h = inr refl
-le_cases Greater h = cc
+pub of_rows_back : (xs : List Held) (n : ℕ) → AreOfRows xs → AreOfRows (drop n xs)
+of_rows_back xs n h = record {
+  ordered = sorted_back stored_cmp (take n xs) (drop n xs) (subst AreInOrder (sym (take-append-drop n xs)) h.ordered);
+  inside = All-drop IsInRow n xs h.inside;
+}
 
-gt_is : (o : Ordering) → is_gt o ≡ true → o ≡ Greater
-gt_is Less h = cc
-gt_is Equal h = cc
-gt_is Greater h = refl
+pub of_rows_front : (xs : List Held) (n : ℕ) → AreOfRows xs → AreOfRows (take n xs)
+of_rows_front xs n h = record {
+  ordered = sorted_front stored_cmp (take n xs) (drop n xs) (subst AreInOrder (sym (take-append-drop n xs)) h.ordered);
+  inside = All-take IsInRow n xs h.inside;
+}
 
--- nothing is from low on and before high, where high is not above low
-never_in : (low high q : List ℕ) → is_lt (bytes_cmp low high) ≡ false → is_in_span low (Some high) q ≡ false
-never_in low high q f =
-    false_from_ne_true (is_in_span low (Some high) q) (λ t.
-    let parts = and_parts (is_le (bytes_cmp low q)) (is_gt (bytes_cmp high q)) t in
-    let under : bytes_cmp q high ≡ Less = nat_list_cmp_total.antisymm q high ∙ ap ordering_reverse (gt_is (bytes_cmp high q) parts.1) in
-    let less : bytes_cmp low high ≡ Less = elim (le_cases (bytes_cmp low q) parts.0) [
-      | inl l ↦ nat_list_cmp_total.trans low q high l under
-      | inr e ↦ nat_list_cmp_total.congr low q high e ∙ under
+pub first_row_is : (xs : List Held) (r : List ℕ) (n : ℕ) → AreOfRows xs → 0 < length xs → HoldsAt (λ x. row_of x.place ≡ Some r) xs 0 → n ≤ length xs → AllOf r xs 0 n → (n < length xs → IsNotOf r xs n) → IsFirstRow xs r (take n xs) (drop n xs)
+first_row_is [] r n h some first within all next = absurd (omega (arith, some))
+first_row_is (x ∷ xs) r zero h some first within all next = absurd (next (omega arith) x (first x))
+first_row_is (x ∷ xs) r (suc n) h some first within all next =
+    let fronts : AllByRecursion (λ y. row_at y ≡ r) (x ∷ take n xs) = all_front r (x ∷ xs) (suc n) all within in (
+      ap (λ (l : List Held). by_rows (x ∷ l)) (sym (take-append-drop n xs)) ∙ front_rows x (take n xs) (drop n xs) r fronts (starts_other r (x ∷ xs) (suc n) h.inside next),
+      of_rows_back (x ∷ xs) (suc n) h,
+    )
+
+back_split : (xs back : List Held) (r : List ℕ) (n : ℕ) → back ≡ drop n xs → 0 < length back → AllByRecursion (λ y. row_at y ≡ r) back → EndsOther r (take n xs) → by_rows (take n xs ++ back) ≡ by_rows (take n xs) ++ (r, back) ∷ []
+back_split xs [] r n e some all ends = absurd (omega (arith, some))
+back_split xs (z ∷ back) r n e some all ends = back_rows (take n xs) z back r all ends
+
+pub last_row_is : (xs : List Held) (r : List ℕ) (n : ℕ) → AreOfRows xs → 0 < length xs → HoldsAt (λ x. row_of x.place ≡ Some r) xs (length xs - 1) → n ≤ length xs → AllOf r xs n (length xs) → (0 < n → IsNotOf r xs (n - 1)) → IsLastRow xs r (drop n xs) (take n xs)
+last_row_is [] r n h some last within all before = absurd (omega (arith, some))
+last_row_is (x ∷ xs) r n h some last within all before =
+    let inner : n < length (x ∷ xs) = elim (cases_lt n (length (x ∷ xs))) [
+      | inl lt ↦ lt
+      | inr ge ↦
+          let end : length (x ∷ xs) ≡ n = omega (arith, ge, within) in
+          absurd (before (omega (arith, end)) x (subst (λ (k : ℕ). row_of (get_or (x ∷ xs) (k - 1) x).place ≡ Some r) end (last x)))
     ] in
-    both_ways (is_lt (bytes_cmp low high)) f (ap is_lt less))
+    let size : 0 < length (drop n (x ∷ xs)) = omega (arith, length-drop n (x ∷ xs), inner) in (
+      ap by_rows (sym (take-append-drop n (x ∷ xs))) ∙ back_split (x ∷ xs) (drop n (x ∷ xs)) r n refl size (all_back r (x ∷ xs) n all) (ends_other r (x ∷ xs) n h.inside within before),
+      of_rows_front (x ∷ xs) n h,
+    )
 
-pub span_of_none : (low high : List ℕ) (entries : List (List ℕ × Vec Held Global)) → is_lt (bytes_cmp low high) ≡ false → filter {X = List ℕ × Vec Held Global} (λ e. false) entries ≡ filter (λ e. is_in_span low (Some high) e.0) entries
-span_of_none low high entries f = filter_alike {X = List ℕ × Vec Held Global} (λ e. false) (λ e. is_in_span low (Some high) e.0) entries (λ e k. sym (never_in low high e.0 f))
+pub next_first : (xs : List Held) (r : List ℕ) (front rest : List Held) → IsFirstRow xs r front rest → (in_direction false (by_rows xs) ≡ (r, front) ∷ in_direction false (by_rows rest)) × AreOfRows rest
+next_first xs r front rest h = h
 
-pub between_span : (from upto : Bound) (low : List ℕ) (high : Option (List ℕ)) (entries : List (List ℕ × Vec Held Global)) → HaveBytes entries → Some low ≡ edge_of from → high ≡ edge_of upto → filter (λ e. is_in_span low high e.0) entries ≡ filter (λ e. is_between_by from upto e.0) entries
-between_span from upto low high entries fit l h =
-    filter_alike {X = List ℕ × Vec Held Global} (λ e. is_in_span low high e.0) (λ e. is_between_by from upto e.0) entries (λ e k.
-    ap (λ (x : Option (List ℕ)). is_le (bytes_cmp low e.0) && is_below_edge x e.0) h
-    ∙ ap (λ (x : Option (List ℕ)). is_from_edge x e.0 && is_below_edge (edge_of upto) e.0) l ∙ sym (between_edges from upto e.0 (fit e k)))
+pub next_last : (xs : List Held) (r : List ℕ) (back rest : List Held) → IsLastRow xs r back rest → (in_direction true (by_rows xs) ≡ (r, back) ∷ in_direction true (by_rows rest)) × AreOfRows rest
+next_last xs r back rest h = (ap (λ (l : List Group). reverse l) h.0 ∙ reverse-append (by_rows rest) ((r, back) ∷ []), h.1)
 
-pub between_none : (from upto : Bound) (entries : List (List ℕ × Vec Held Global)) → HaveBytes entries → None ≡ edge_of from → filter {X = List ℕ × Vec Held Global} (λ e. false) entries ≡ filter (λ e. is_between_by from upto e.0) entries
-between_none from upto entries fit none =
-    filter_alike {X = List ℕ × Vec Held Global} (λ e. false) (λ e. is_between_by from upto e.0) entries (λ e k.
-    ap (λ (x : Option (List ℕ)). is_from_edge x e.0 && is_below_edge (edge_of upto) e.0) none ∙ sym (between_edges from upto e.0 (fit e k)))
+-- ---- the rows of a content
 
--- ---- entries by their names
+-- the rows of changes, each with all its changes
+record IsGrouping (xs : List Held) (groups : List Group) : Type 0 where
+  sorted : IsStrictlySortedBy row_cmp (names_of groups)
+  told : (g : Group) → Contains groups g → (x : Held) → Contains g.1 x → Contains xs x × (row_at x ≡ g.0)
+  filled : (g : Group) → Contains groups g → (x : Held) × Contains g.1 x
+  ordered : (g : Group) → Contains groups g → AreInOrder g.1
+  found : (x : Held) → Contains xs x → (g : Group) × Contains groups g × (g.0 ≡ row_at x) × Contains g.1 x
 
-found_at : (q : List ℕ) (v : Vec Held Global) (e : List ℕ × Vec Held Global) (es : List (List ℕ × Vec Held Global)) (b : Bool) → is_row q e.0 ≡ b → (lookup (is_row q) es ≡ Some v → Contains es (q, v)) → cond b (Some e.1) (lookup (is_row q) es) ≡ Some v → Contains (e ∷ es) (q, v)
-found_at q v e es true t later k =
-    let name : e.0 ≡ q = sym (same_row q e.0 t) in
-    let value : e.1 ≡ v = cc in
-    let whole : e ≡ (q, v) = ap (λ (n : List ℕ). let p : List ℕ × Vec Held Global = (n, e.1) in p) name ∙ ap (λ (w : Vec Held Global). let p : List ℕ × Vec Held Global = (q, w) in p) value in
-    subst (λ (p : List ℕ × Vec Held Global). Contains {X = List ℕ × Vec Held Global} (e ∷ es) p) whole (contains_here {X = List ℕ × Vec Held Global} e es)
-found_at q v e es false t later k = contains_there {X = List ℕ × Vec Held Global} e es (q, v) (later k)
+no_groups : IsGrouping [] []
+unfolding IsStrictlySortedBy
+no_groups = record {
+  sorted = tt;
+  told = λ g k. absurd (contains_nil g k);
+  filled = λ g k. absurd (contains_nil g k);
+  ordered = λ g k. absurd (contains_nil g k);
+  found = λ x k. absurd (contains_nil x k);
+}
 
-pub entry_found : (q : List ℕ) (v : Vec Held Global) (es : List (List ℕ × Vec Held Global)) → lookup (is_row q) es ≡ Some v → Contains es (q, v)
-entry_found q v [] h = cc
-entry_found q v (e ∷ es) h = found_at q v e es (is_row q e.0) refl (λ k. entry_found q v es k) h
+-- x begins a row of its own, before all others
+grouping_new : (x : Held) (xs : List Held) (groups : List Group) → IsGrouping xs groups → AllByRecursion (λ n. row_cmp (row_at x) n ≡ Less) (names_of groups) → IsGrouping (x ∷ xs) ((row_at x, x ∷ []) ∷ groups)
+unfolding IsStrictlySortedBy
+grouping_new x xs groups h below =
+    let mine : Group = (row_at x, x ∷ []) in
+    let cases : (g : Group) → Contains {X = Group} ((row_at x, x ∷ []) ∷ groups) g → ((row_at x, x ∷ []) ≡ g) ⊎ Contains groups g = λ g k. contains_cases {X = Group} (row_at x, x ∷ []) groups g k in
+    record {
+      sorted = (below, h.sorted);
+      told = λ g k. elim (cases g k) [
+        | inl e ↦ subst (λ (d : Group). (y : Held) → Contains d.1 y → Contains (x ∷ xs) y × (row_at y ≡ d.0)) e
+            (λ y c. let same : x ≡ y = contains_one x y c in subst (λ (z : Held). Contains (x ∷ xs) z × (row_at z ≡ row_at x)) same (contains_here x xs, refl))
+        | inr later ↦ λ y c. (let t = h.told g later y c in (contains_there x xs y t.0, t.1))
+      ];
+      filled = λ g k. elim (cases g k) [
+        | inl e ↦ subst (λ (d : Group). (y : Held) × Contains d.1 y) e (x, contains_here x [])
+        | inr later ↦ h.filled g later
+      ];
+      ordered = λ g k. elim (cases g k) [
+        | inl e ↦ subst (λ (d : Group). AreInOrder d.1) e (tt, tt)
+        | inr later ↦ h.ordered g later
+      ];
+      found = λ y k. elim (contains_cases x xs y k) [
+        | inl e ↦ subst (λ (z : Held). (g : Group) × Contains {X = Group} ((row_at x, x ∷ []) ∷ groups) g × (g.0 ≡ row_at z) × Contains g.1 z) e
+            ((row_at x, x ∷ []), contains_here {X = Group} (row_at x, x ∷ []) groups, refl, contains_here x [])
+        | inr later ↦ (let f = h.found y later in (f.0, contains_there {X = Group} (row_at x, x ∷ []) groups f.0 f.1, f.2, f.3))
+      ];
+    }
 
-some_of : (o : Option (Vec Held Global)) → IsSome o → (v : Vec Held Global) × (o ≡ Some v)
-some_of None h = cc
-some_of (Some v) h = (v, refl)
+-- x is of the first row
+grouping_same : (x : Held) (xs : List Held) (first : Group) (groups : List Group) → IsGrouping xs (first ∷ groups) → row_at x ≡ first.0 → ((y : Held) → Contains xs y → stored_cmp x y ≡ Less) → IsGrouping (x ∷ xs) ((first.0, x ∷ first.1) ∷ groups)
+unfolding IsStrictlySortedBy
+grouping_same x xs first groups h same below =
+    let cases : (g : Group) → Contains {X = Group} ((first.0, x ∷ first.1) ∷ groups) g → ((first.0, x ∷ first.1) ≡ g) ⊎ Contains groups g = λ g k. contains_cases {X = Group} (first.0, x ∷ first.1) groups g k in
+    let head : Contains (first ∷ groups) first = contains_here first groups in
+    let old : (g : Group) → Contains groups g → Contains (first ∷ groups) g = λ g k. contains_there first groups g k in
+    record {
+      sorted = h.sorted;
+      told = λ g k. elim (cases g k) [
+        | inl e ↦ subst (λ (d : Group). (y : Held) → Contains d.1 y → Contains (x ∷ xs) y × (row_at y ≡ d.0)) e
+            (λ y c. elim (contains_cases x first.1 y c) [
+              | inl is ↦ subst (λ (z : Held). Contains (x ∷ xs) z × (row_at z ≡ first.0)) is (contains_here x xs, same)
+              | inr later ↦ (let t = h.told first head y later in (contains_there x xs y t.0, t.1))
+            ])
+        | inr later ↦ λ y c. (let t = h.told g (old g later) y c in (contains_there x xs y t.0, t.1))
+      ];
+      filled = λ g k. elim (cases g k) [
+        | inl e ↦ subst (λ (d : Group). (y : Held) × Contains d.1 y) e (x, contains_here x first.1)
+        | inr later ↦ h.filled g (old g later)
+      ];
+      ordered = λ g k. elim (cases g k) [
+        | inl e ↦ subst (λ (d : Group). AreInOrder d.1) e (all_from (λ y. stored_cmp x y ≡ Less) first.1 (λ y c. below y (h.told first head y c).0), h.ordered first head)
+        | inr later ↦ h.ordered g (old g later)
+      ];
+      found = λ y k. elim (contains_cases x xs y k) [
+        | inl e ↦ subst (λ (z : Held). (g : Group) × Contains {X = Group} ((first.0, x ∷ first.1) ∷ groups) g × (g.0 ≡ row_at z) × Contains g.1 z) e
+            ((first.0, x ∷ first.1), contains_here {X = Group} (first.0, x ∷ first.1) groups, sym same, contains_here x first.1)
+        | inr later ↦
+            (let f = h.found y later in
+            elim (contains_cases first groups f.0 f.1) [
+              | inl e ↦ ((first.0, x ∷ first.1), contains_here {X = Group} (first.0, x ∷ first.1) groups, ap (λ (d : Group). d.0) e ∙ f.2, contains_there x first.1 y (subst (λ (d : Group). Contains d.1 y) (sym e) f.3))
+              | inr more ↦ (f.0, contains_there {X = Group} (first.0, x ∷ first.1) groups f.0 more, f.2, f.3)
+            ])
+      ];
+    }
 
-pub named : (rows : RowMap) (q : List ℕ) → IsSome (get bytes_cmp rows q) → Contains (keys_of rows.entries) q
-named rows q some =
-    let s = some_of (get bytes_cmp rows q) some in
-    contains_map (λ (e : List ℕ × Vec Held Global). e.0) rows.entries (q, s.0) (entry_found q s.0 rows.entries s.1)
+below_all : (x : Held) (xs : List Held) (first : Group) (groups : List Group) → IsGrouping xs (first ∷ groups) → row_cmp (row_at x) first.0 ≡ Less → AllByRecursion (λ n. row_cmp (row_at x) n ≡ Less) (names_of (first ∷ groups))
+unfolding IsStrictlySortedBy
+below_all x xs first groups h less = (less, all_above (names_of groups) h.sorted.0)
+  where
+    all_above : (ns : List (List ℕ)) → AllByRecursion (λ n. row_cmp first.0 n ≡ Less) ns → AllByRecursion (λ n. row_cmp (row_at x) n ≡ Less) ns
+    all_above [] a = tt
+    all_above (n ∷ ns) a = (rows_total.trans (row_at x) first.0 n less a.0, all_above ns a.1)
 
-pub named_between : (from upto : Bound) (rows : RowMap) (q : List ℕ) → IsSome (get bytes_cmp rows q) → IsBetween from upto q → Contains (keys_of (filter (λ (e : List ℕ × Vec Held Global). is_between_by from upto e.0) rows.entries)) q
-named_between from upto rows q some inside =
-    let s = some_of (get bytes_cmp rows q) some in
-    contains_map (λ (e : List ℕ × Vec Held Global). e.0) (filter (λ (e : List ℕ × Vec Held Global). is_between_by from upto e.0) rows.entries) (q, s.0)
-    (contains_filter {X = List ℕ × Vec Held Global} (λ e. is_between_by from upto e.0) rows.entries (q, s.0) (entry_found q s.0 rows.entries s.1) (between_true from upto q inside))
+grouping_more : (x : Held) (xs : List Held) (groups : List Group) → IsGrouping xs groups → AreOfRows (x ∷ xs) → IsGrouping (x ∷ xs) (with_change x groups)
+unfolding IsStrictlySortedBy
+grouping_more x xs [] h rows = grouping_new x xs [] h tt
+grouping_more x xs (first ∷ groups) h rows =
+    let y = h.filled first (contains_here first groups) in
+    let at = h.told first (contains_here first groups) y.0 y.1 in
+    let below : stored_cmp x y.0 ≡ Less = all_at (λ z. stored_cmp x z ≡ Less) xs y.0 rows.ordered.0 at.0 in
+    let mine = in_some (row_of x.place) (rows.inside 0 x (omega arith)) in
+    let its = in_some (row_of y.0.place) (All-contains IsInRow (x ∷ xs) y.0 rows.inside (contains_there x xs y.0 at.0)) ∙ ap (λ (a : List ℕ). Some a) at.1 in
+    let not_above = rows_rise x.place y.0.place (row_at x) first.0 mine its below in
+    elim (cases_ordering (row_cmp (row_at x) first.0)) [
+      | inl less ↦ subst (IsGrouping (x ∷ xs)) (sym (with_other x first groups (ap is_eq less))) (grouping_new x xs (first ∷ groups) h (below_all x xs first groups h less))
+      | inr (inl equal) ↦ subst (IsGrouping (x ∷ xs)) (sym (with_same x first groups (ap is_eq equal)))
+          (grouping_same x xs first groups h (row_exact (row_at x) first.0 equal) (λ z k. all_at (λ w. stored_cmp x w ≡ Less) xs z rows.ordered.0 k))
+      | inr (inr greater) ↦ absurd (not_above greater)
+    ]
 
-pub named_in_range : (from upto : Bound) (place : Place) (rows : RowMap) (names : List (List ℕ)) → place ≡ RangeGone from upto → names ≡ keys_of (filter (λ (e : List ℕ × Vec Held Global). is_between_by from upto e.0) rows.entries) → (q : List ℕ) → IsSome (get bytes_cmp rows q) → Encloses place (RowGone q) → Contains names q
-named_in_range from upto place rows names is same q some inside =
-    subst (λ (l : List (List ℕ)). Contains l q) (sym same) (named_between from upto rows q some (subst (λ (p : Place). Encloses p (RowGone q)) is inside))
+grouping : (xs : List Held) → AreOfRows xs → IsGrouping xs (by_rows xs)
+grouping [] h = no_groups
+grouping (x ∷ xs) h = grouping_more x xs (by_rows xs) (grouping xs (of_rows_back (x ∷ xs) 1 h)) h
 
--- ---- copies
+-- ---- what the code reads
 
-pub keys_shown : (es : List (List ℕ × Vec Held Global)) → keys_of (shown_of es) ≡ keys_of es
-keys_shown [] = refl
-keys_shown (e ∷ es) = ap (λ (l : List (List ℕ)). e.0 ∷ l) (keys_shown es)
+at_place : (xs : List Held) (i : ℕ) (x : Held) (r : List ℕ) → Some x ≡ slice_get xs i → Some r ≡ row_of x.place → HoldsAt (λ y. row_of y.place ≡ Some r) xs i
+at_place xs i x r at row d = subst (λ (y : Held). row_of y.place ≡ Some r) (sym (get_or_from_slice_get xs i x d (sym at))) (sym row)
 
-at_middle : (P : List ℕ → Type 0) (xs rest : List (List ℕ × List Held)) (k : List ℕ) (l : List Held) → AllByRecursion P (keys_of (xs ++ (k, l) ∷ rest)) → P k
-at_middle P [] rest k l h = h.0
-at_middle P (x ∷ xs) rest k l h = at_middle P xs rest k l h.1
+pub first_told : (xs front rest : List Held) (x : Held) (r : List ℕ) (n : ℕ) → AreOfRows xs → Some x ≡ slice_get xs 0 → Some r ≡ row_of x.place → n ≤ length xs → AllOf r xs 0 n → (n < length xs → IsNotOf r xs n) → front ≡ take n xs → rest ≡ drop n xs → IsFirstRow xs r front rest
+first_told xs front rest x r n h at row within all next e f =
+    subst (λ (l : List Held). IsFirstRow xs r l rest) (sym e) (subst (λ (l : List Held). IsFirstRow xs r (take n xs) l) (sym f)
+    (first_row_is xs r n h (slice_get_within xs 0 x (sym at)) (at_place xs 0 x r at row) within all next))
 
-inserted_at : (o : Ordering) (k : List ℕ) (v : Vec Held Global) (e : List ℕ × Vec Held Global) (es more : List (List ℕ × Vec Held Global)) → o ≡ Greater → shown_of more ≡ shown_of es ++ (k, v.items) ∷ [] → shown_of (match_ordering o ((k, v) ∷ e ∷ es) ((e.0, v) ∷ es) (e ∷ more)) ≡ shown_of (e ∷ es) ++ (k, v.items) ∷ []
-inserted_at Less k v e es more o h = cc
-inserted_at Equal k v e es more o h = cc
-inserted_at Greater k v e es more o h = ap (λ (l : List (List ℕ × List Held)). entry_shown e ∷ l) h
+pub last_told : (xs back rest : List Held) (x : Held) (r : List ℕ) (n : ℕ) → AreOfRows xs → Some x ≡ slice_get xs (length xs - 1) → Some r ≡ row_of x.place → n ≤ length xs → AllOf r xs n (length xs) → (0 < n → IsNotOf r xs (n - 1)) → rest ≡ take n xs → back ≡ drop n xs → IsLastRow xs r back rest
+last_told xs back rest x r n h at row within all before e f =
+    let some : 0 < length xs = omega (arith, slice_get_within xs (length xs - 1) x (sym at)) in
+    subst (λ (l : List Held). IsLastRow xs r l rest) (sym f) (subst (λ (l : List Held). IsLastRow xs r (drop n xs) l) (sym e)
+    (last_row_is xs r n h some (at_place xs (length xs - 1) x r at row) within all before))
 
--- an entry behind all others
-inserted_last : (es : List (List ℕ × Vec Held Global)) (k : List ℕ) (v : Vec Held Global) (l : List Held) (rest : List (List ℕ × List Held)) → IsStrictlySortedBy bytes_cmp (keys_of (shown_of es ++ (k, l) ∷ rest)) → shown_of (insert_entry bytes_cmp es k v) ≡ shown_of es ++ (k, v.items) ∷ []
-inserted_last [] k v l rest sorted = refl
-inserted_last (e ∷ es) k v l rest sorted =
-    let less : bytes_cmp e.0 k ≡ Less = at_middle (λ y. bytes_cmp e.0 y ≡ Less) (shown_of es) rest k l (sorted_head bytes_cmp e.0 (keys_of (shown_of es ++ (k, l) ∷ rest)) sorted) in
-    inserted_at (bytes_cmp k e.0) k v e es (insert_entry bytes_cmp es k v) (nat_list_cmp_total.antisymm k e.0 ∙ ap ordering_reverse less)
-    (inserted_last es k v l rest (sorted_tail bytes_cmp e.0 (keys_of (shown_of es ++ (k, l) ∷ rest)) sorted))
+-- ---- between bounds
 
--- one more entry copied
-pub copied_more : (copy now walk it rest : List (List ℕ × Vec Held Global)) (k n : List ℕ) (v w : Vec Held Global) → it ≡ (k, v) ∷ rest → IsStrictlySortedBy bytes_cmp (keys_of walk) → shown_of copy ++ shown_of it ≡ shown_of walk → now ≡ insert_entry bytes_cmp copy n w → n ≡ k → w.items ≡ v.items → shown_of now ++ shown_of rest ≡ shown_of walk
-copied_more copy now walk it rest k n v w split sorted so_far inserted name items =
-    let here : shown_of copy ++ (k, v.items) ∷ shown_of rest ≡ shown_of walk = subst (λ (l : List (List ℕ × Vec Held Global)). shown_of copy ++ shown_of l ≡ shown_of walk) split so_far in
-    let order : IsStrictlySortedBy bytes_cmp (keys_of (shown_of copy ++ (k, v.items) ∷ shown_of rest)) =
-    subst (λ (l : List (List ℕ × List Held)). IsStrictlySortedBy bytes_cmp (keys_of l)) (sym here) (subst (IsStrictlySortedBy bytes_cmp) (sym (keys_shown walk)) sorted) in
-    let added : shown_of now ≡ shown_of copy ++ (k, v.items) ∷ [] =
-    ap shown_of inserted ∙ ap (λ (m : List ℕ). shown_of (insert_entry bytes_cmp copy m w)) name ∙ inserted_last copy k w v.items (shown_of rest) order
-    ∙ ap (λ (l : List Held). shown_of copy ++ (k, l) ∷ []) items in
-    ap (λ (l : List (List ℕ × List Held)). l ++ shown_of rest) added ∙ append_assoc (shown_of copy) ((k, v.items) ∷ []) (shown_of rest) ∙ here
+meets_row : (from upto : Bound) (p : Place) (r : List ℕ) → row_of p ≡ Some r → MeetsBounds from upto p → IsBetween from upto r
+meets_row from upto PartGone r e m = cc
+meets_row from upto (RangeGone a b) r e m = cc
+meets_row from upto (RowGone s) r e m = let same : s ≡ r = cc in subst (IsBetween from upto) same m
+meets_row from upto (Marker s) r e m = let same : s ≡ r = cc in subst (IsBetween from upto) same m
+meets_row from upto (Cell s c) r e m = let same : s ≡ r = cc in subst (IsBetween from upto) same m
+
+row_passes : (from upto : Bound) (x : Held) (r : List ℕ) → row_of x.place ≡ Some r → IsBetween from upto r → is_between from upto x ≡ true
+row_passes from upto x r e m =
+    and_from (is_behind_bound from x.place) (is_before_bound upto x.place) (behind_of from x.place r e ∙ ap is_lt m.0) (before_of upto x.place r e ∙ ap is_lt m.1)
+
+passes_row : (from upto : Bound) (x : Held) → is_between from upto x ≡ true → IsInRow x
+passes_row from upto x t = in_row_at x.place (and_parts (is_behind_bound from x.place) (is_before_bound upto x.place) t).0
+  where
+    in_row_at : (p : Place) → is_behind_bound from p ≡ true → IsSome (row_of p)
+    in_row_at PartGone h = cc
+    in_row_at (RangeGone a b) h = cc
+    in_row_at (RowGone s) h = refl
+    in_row_at (Marker s) h = refl
+    in_row_at (Cell s c) h = refl
+
+pub between_of_rows : (from upto : Bound) (content : List Held) → AreInOrder content → AreOfRows (filter (is_between from upto) content)
+between_of_rows from upto content ordered = record {
+  ordered = IsStrictlySortedBy-filter stored_cmp (is_between from upto) content ordered;
+  inside = All-weaker (λ x. is_between from upto x ≡ true) IsInRow (passes_row from upto) (filter (is_between from upto) content) (filter_passes (is_between from upto) content);
+}
+
+abbrev group_cmp : Group → Group → Ordering
+group_cmp g h = row_cmp g.0 h.0
+
+groups_sorted : (groups : List Group) → IsStrictlySortedBy row_cmp (names_of groups) → IsStrictlySortedBy group_cmp groups
+unfolding IsStrictlySortedBy
+groups_sorted [] h = tt
+groups_sorted (g ∷ groups) h = (all_groups groups h.0, groups_sorted groups h.1)
+  where
+    all_groups : (gs : List Group) → AllByRecursion (λ n. row_cmp g.0 n ≡ Less) (names_of gs) → AllByRecursion (λ d. group_cmp g d ≡ Less) gs
+    all_groups [] a = tt
+    all_groups (d ∷ gs) a = (a.0, all_groups gs a.1)
+
+one_group : (groups : List Group) → IsStrictlySortedBy row_cmp (names_of groups) → (g h : Group) → Contains groups g → Contains groups h → g.0 ≡ h.0 → g ≡ h
+one_group groups sorted g h kg kh same =
+    one_at (on_total (λ (d : Group). d.0) rows_total) groups (groups_sorted groups sorted) g h kg kh (subst (λ (n : List ℕ). row_cmp g.0 n ≡ Equal) same (tied_itself rows_total g.0))
+
+module _ (from upto : Bound) (content : List Held) (ordered : AreInOrder content) where
+  abbrev chosen : List Held
+  chosen = filter (is_between from upto) content
+
+  of_rows : AreOfRows (filter (is_between from upto) content)
+  of_rows = between_of_rows from upto content ordered
+
+  parts : IsGrouping (filter (is_between from upto) content) (by_rows (filter (is_between from upto) content))
+  parts = grouping (filter (is_between from upto) content) of_rows
+
+  row_of_chosen : (x : Held) → Contains (filter (is_between from upto) content) x → row_of x.place ≡ Some (row_at x)
+  row_of_chosen x k = in_some (row_of x.place) (All-contains IsInRow (filter (is_between from upto) content) x of_rows.inside k)
+
+  between_name : (g : Group) → Contains (by_rows (filter (is_between from upto) content)) g → IsBetween from upto g.0
+  between_name g k =
+      let x = parts.filled g k in
+      let t = parts.told g k x.0 x.1 in
+      meets_row from upto x.0.place g.0 (row_of_chosen x.0 t.0 ∙ ap (λ (n : List ℕ). Some n) t.1) (between_meets from upto x.0.place (contains_from_filter (is_between from upto) content x.0 t.0).1)
+
+  not_empty : (g : Group) → Contains (by_rows (filter (is_between from upto) content)) g → g.1 ≢ []
+  not_empty g k e = let x = parts.filled g k in contains_nil x.0 (subst (λ (l : List Held). Contains l x.0) e x.1)
+
+  whole_group : (g : Group) → Contains (by_rows (filter (is_between from upto) content)) g → IsGroupOf content g
+  whole_group g k x = (
+    λ c. (let t = parts.told g k x c in ((contains_from_filter (is_between from upto) content x t.0).0, row_of_chosen x t.0 ∙ ap (λ (n : List ℕ). Some n) t.1)),
+    λ h.
+        let f = parts.found x (contains_filter (is_between from upto) content x h.0 (row_passes from upto x g.0 h.1 (between_name g k))) in
+        let same : f.0 ≡ g = one_group (by_rows (filter (is_between from upto) content)) parts.sorted f.0 g f.1 k (f.2 ∙ row_is x g.0 h.1) in
+        subst (λ (d : Group). Contains d.1 x) same f.3,
+  )
+
+  pub rows_are_between : AreRowsBetween from upto content (by_rows (filter (is_between from upto) content))
+  rows_are_between = record {
+    sorted = parts.sorted;
+    within = λ g k. (between_name g k, not_empty g k, whole_group g k);
+    ordered = parts.ordered;
+    all = λ x row k e m.
+        let f = parts.found x (contains_filter (is_between from upto) content x k (row_passes from upto x row e m)) in
+        subst (λ (n : List ℕ). Contains (names_of (by_rows (filter (is_between from upto) content))) n) (f.2 ∙ row_is x row e) (contains_map (λ (g : Group). g.0) (by_rows (filter (is_between from upto) content)) f.0 f.1);
+  }

@@ -1,7 +1,5 @@
 pub mod Tests
-pub mod Taking
-pub mod Rows
-pub mod Edges
-pub mod Filed
-pub mod Sweeps
+pub mod Parts
+pub mod Settled
+pub mod Ranges
 pub mod Walks

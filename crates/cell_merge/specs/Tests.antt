@@ -1,71 +1,56 @@
--- The tests that the code computes; `proofs/TestLaws` says what each tells.
-use Rattle.std.specs.Prelude.{◌==◌, ◌&&◌, ℕ, Bool, true, false, not, is_none, Option, List, int_le, if◌then◌else◌}
-use Rattle.std.specs.Ordering.{is_eq, is_lt, is_gt, is_ge}
-use Rattle.std.specs.declared.cmp.Ordering.{Ordering}
-use Rattle.std.specs.Cmp.Lexicographic.{pointwise}
+-- The tests of places by which the code searches.
+use Rattle.std.specs.Prelude.{ℕ, Bool, true, false, List}
+use Rattle.std.specs.Ordering.{is_lt, is_le}
 use Rattle.changes.specs.declared.Bound.{Bound}
 use Rattle.changes.specs.declared.Place.{Place}
 use Rattle.changes.specs.declared.Place.TheVariants.{Cell, Marker, RowGone, RangeGone, PartGone}
-use Rattle.changes.specs.declared.Held.{Held}
-use Rattle.changes.specs.Order.{bound_signs, row_signs, signs_cmp, rank_cmp}
-use Rattle.std.specs.Bool.{beq}
+use Rattle.changes.specs.Order.{bound_signs, row_signs, signs_cmp}
+use Rattle.changes.specs.Places.{bound_cmp, place_cmp}
 
-abbrev pub is_same_bytes : List ℕ → List ℕ → Bool
-is_same_bytes a b = pointwise ◌==◌ a b
+-- the place is in a row behind the bound
+abbrev pub is_behind_bound : Bound → Place → Bool
+is_behind_bound b (Cell row column) = is_lt (signs_cmp (bound_signs b) (row_signs row))
+is_behind_bound b (Marker row) = is_lt (signs_cmp (bound_signs b) (row_signs row))
+is_behind_bound b (RowGone row) = is_lt (signs_cmp (bound_signs b) (row_signs row))
+is_behind_bound b (RangeGone from upto) = false
+is_behind_bound b PartGone = false
 
-abbrev pub is_same_bound : Bound → Bound → Bool
-is_same_bound a b = is_same_bytes a.at b.at && beq a.after b.after
+-- the place is in a row before the bound, or in none
+abbrev pub is_before_bound : Bound → Place → Bool
+is_before_bound b (Cell row column) = is_lt (signs_cmp (row_signs row) (bound_signs b))
+is_before_bound b (Marker row) = is_lt (signs_cmp (row_signs row) (bound_signs b))
+is_before_bound b (RowGone row) = is_lt (signs_cmp (row_signs row) (bound_signs b))
+is_before_bound b (RangeGone from upto) = true
+is_before_bound b PartGone = true
 
-abbrev pub is_between_by : Bound → Bound → List ℕ → Bool
-is_between_by from upto row = is_lt (signs_cmp (bound_signs from) (row_signs row)) && is_lt (signs_cmp (row_signs row) (bound_signs upto))
+-- the first is a deletion of rows that begins no later than the second
+abbrev pub begins_by : Place → Place → Bool
+begins_by PartGone q = true
+begins_by (RangeGone from upto) (Cell row column) = is_behind_bound from (Cell row column)
+begins_by (RangeGone from upto) (Marker row) = is_behind_bound from (Marker row)
+begins_by (RangeGone from upto) (RowGone row) = is_behind_bound from (RowGone row)
+begins_by (RangeGone from upto) (RangeGone a b) = is_le (bound_cmp from a)
+begins_by (RangeGone from upto) PartGone = false
+begins_by (RowGone row) q = false
+begins_by (Marker row) q = false
+begins_by (Cell row column) q = false
 
-abbrev pub is_same_place : Place → Place → Bool
-is_same_place (Cell r c) (Cell row column) = is_same_bytes r row && (c == column)
-is_same_place (Marker r) (Marker row) = is_same_bytes r row
-is_same_place (RowGone r) (RowGone row) = is_same_bytes r row
-is_same_place (RangeGone from upto) (RangeGone a b) = is_same_bound from a && is_same_bound upto b
-is_same_place PartGone PartGone = true
-is_same_place p q = false
+-- the first is a deletion of rows that reaches as far as the second
+abbrev pub reaches_to : Place → Place → Bool
+reaches_to PartGone q = true
+reaches_to (RangeGone from upto) (Cell row column) = is_before_bound upto (Cell row column)
+reaches_to (RangeGone from upto) (Marker row) = is_before_bound upto (Marker row)
+reaches_to (RangeGone from upto) (RowGone row) = is_before_bound upto (RowGone row)
+reaches_to (RangeGone from upto) (RangeGone a b) = is_le (bound_cmp b upto)
+reaches_to (RangeGone from upto) PartGone = false
+reaches_to (RowGone row) q = false
+reaches_to (Marker row) q = false
+reaches_to (Cell row column) q = false
 
--- the second place is the first, or lies in it
-abbrev pub is_within : Place → Place → Bool
-is_within PartGone q = true
-is_within (RangeGone from upto) (RangeGone a b) =
-    not (is_gt (signs_cmp (bound_signs from) (bound_signs a))) && not (is_gt (signs_cmp (bound_signs b) (bound_signs upto)))
-is_within (RangeGone from upto) (Cell row column) = is_between_by from upto row
-is_within (RangeGone from upto) (Marker row) = is_between_by from upto row
-is_within (RangeGone from upto) (RowGone row) = is_between_by from upto row
-is_within (RowGone r) (Cell row column) = is_same_bytes r row
-is_within (RowGone r) (Marker row) = is_same_bytes r row
-is_within p q = is_same_place p q
+-- the place stands before the other
+abbrev pub is_before_place : Place → Place → Bool
+is_before_place place p = is_lt (place_cmp p place)
 
-abbrev pub is_deletion_by : Place → Option (List ℕ) → Bool
-is_deletion_by (Cell row column) value = is_none value
-is_deletion_by (Marker row) value = false
-is_deletion_by (RowGone row) value = true
-is_deletion_by (RangeGone from upto) value = true
-is_deletion_by PartGone value = true
-
--- whether x's place is y's and the ranks pass the test, or x is not earlier and y lies in its place
-abbrev pub stands_by : (Ordering → Bool) → Held → Held → Bool
-stands_by test x y = if is_same_place x.place y.place then test (rank_cmp x y) else int_le y.timestamp x.timestamp && is_within x.place y.place
-
-abbrev pub outranks_by : Held → Held → Bool
-outranks_by x y = stands_by is_gt x y
-
--- whether x is y or outranks it
-abbrev pub reaches_by : Held → Held → Bool
-reaches_by x y = stands_by is_ge x y
-
--- whether both are one
-abbrev pub same_by : Held → Held → Bool
-same_by x y = is_same_place x.place y.place && is_eq (rank_cmp x y)
-
--- whether a place meets the bounds
-abbrev pub meets_by : Bound → Bound → Place → Bool
-meets_by from upto (Cell row column) = is_between_by from upto row
-meets_by from upto (Marker row) = is_between_by from upto row
-meets_by from upto (RowGone row) = is_between_by from upto row
-meets_by from upto (RangeGone a b) =
-    not (is_gt (signs_cmp (bound_signs a) (bound_signs upto))) && not (is_gt (signs_cmp (bound_signs from) (bound_signs b)))
-meets_by from upto PartGone = true
+-- the place stands before those of the row
+abbrev pub is_before_row : List ℕ → Place → Bool
+is_before_row row p = is_before_place (RowGone row) p

@@ -1,243 +1,129 @@
-//! The content of a partition: the changes that no other one there outranks.
+//! The content of a partition, or of a part of it: changes none of which another one there outranks, in order.
 
-ghost use Rattle.std.specs.Prelude.{◌≡◌, IsTrue, None, ◌↔◌, ◌+◌, ◌≤◌, ◌⊎◌, ℕ, List, [], ◌++◌, IfOk, OnOk, OnErr, Contains, vec_len, vec_capacity};
-ghost use Rattle.std.specs.BTreeMap.{keys};
-ghost use Rattle.std.specs.List.Sorted.{IsStrictlySortedBy};
-ghost use Rattle.changes.specs.declared.Held.{Held as held_value};
-ghost use Rattle.changes.specs.Order.{row_of};
-ghost use Rattle.changes.specs.Contents.{Either, IsContent, IsMergeOf, AreApart, AreSame};
+ghost use Rattle.std.specs.Prelude.{◌≡◌, ◌↔◌, [], IsTrue, IfOk, Contains};
+ghost use Rattle.changes.specs.Contents.{IsContent, IsMergeOf, AreApart};
+ghost use Rattle.changes.specs.Places.{AreInOrder};
 ghost use Rattle.changes.specs.Queries.{IsSlice};
-ghost use Rattle.cell_merge.specs.Rows.{bytes_cmp, held_at, listed, shown_of, HoldsSame, AreEmptyOnly, AddsNoRow, FitRows, HasRoom};
-ghost use Rattle.cell_merge.specs.Filed.{Holds, HoldsContent, IsFiled};
-ghost use Rattle.cell_merge.specs.Walks.{AreRowsBetween};
-ghost use Rattle.cell_merge.specs.Sweeps.{deletions_of, AllCover};
+ghost use Rattle.cell_merge.specs.Walks.{IsWalkOver};
 
-use crate::incoming::{Incoming, gather};
-use crate::plain::{are_among, copy_changes, copy_meeting};
-use crate::rows::{Rows, drop_empty, make_room, rows_are_among, stay_ordered, take_rows};
-use crate::sweeps::{Sweep, plan, take_deletions};
-use crate::walk::{all_rows, copy_rows, rows_between};
-use changes::{Bound, Held, Helds};
-use cs_base::Bytes;
+use crate::lists::{are_same, copy_meeting, copy_onto, merged, rows_between, settled};
+use crate::ranking::split_rows;
+use crate::walk::RowWalk;
+use changes::{Bound, Held};
 use std::alloc::{AllocError, Global};
-use std::collections::BTreeMap;
-use std::collections::btree_map::Range;
 use std::marker::Model;
 
-/// The changes of a partition none of which outranks another, by their rows, with the deletions of rows beside them.
-#[derive(Drop)]
+/// Changes of a partition none of which another one there outranks, in the order of their places. It is what goes between
+/// nodes: a slice of what a node keeps, a reply, and what merges replies.
+#[derive(Debug, Drop)]
 pub struct Content {
-    rows: Rows,
-    deletions: Vec<Held>,
-    alloc: Global,
+    changes: Vec<Held>,
 }
 
 impl Model for Content {
-    ghost use Rattle.std.specs.Prelude.{List, ◌++◌};
+    ghost use Rattle.std.specs.Prelude.{List};
     ghost use Rattle.changes.specs.declared.Held.{Held};
-    ghost use Rattle.cell_merge.specs.Rows.{listed};
-    ghost use Rattle.cell_merge.specs.Filed.{IsKept};
+    ghost use Rattle.cell_merge.specs.Settled.{IsSettled};
 
     ghost Value = { List Held };
 
-    ghost view = { λ a. a.deletions.items ++ listed a.rows.entries };
+    ghost view = { λ a. a.changes.items };
 
-    ghost invariant = { λ a. IsKept a.rows a.deletions.items };
-}
-
-/// Takes all the memory that incoming changes need; what is held stays the same.
-fn prepare(
-    rows: &mut Rows,
-    deletions: &mut Vec<Held>,
-    alloc: Global,
-    incoming_rows: &Rows,
-    incoming_deletions: Vec<Held>,
-) -> Result<Vec<Sweep>, AllocError>
-    requires empty { AreEmptyOnly rows.old [] }
-    requires fit { FitRows rows.old }
-    ensures held { HoldsSame rows.old rows.new }
-    ensures listed { listed rows.new.entries ≡ listed rows.old.entries }
-    ensures empty { AreEmptyOnly rows.new (keys incoming_rows.now) }
-    ensures fit { FitRows rows.new }
-    ensures deletions { deletions.new.items ≡ deletions.old.items }
-    ensures room { OnOk result (HasRoom rows.new incoming_rows.now.entries) }
-    ensures more { IfOk result (λ sweeps. vec_len deletions.new + vec_len sweeps ≤ vec_capacity deletions.new) }
-    ensures sweeps { IfOk result (λ sweeps. deletions_of sweeps.items ≡ incoming_deletions.items) }
-    ensures cover { IfOk result (λ sweeps. AllCover rows.new sweeps.items) }
-{
-    make_room(rows, alloc, incoming_rows)?;
-    let sweeps = plan(alloc, rows, incoming_deletions)?;
-    deletions.reserve(sweeps.len())?;
-    Ok(sweeps)
-}
-
-/// Puts in what was prepared, without a call that can fail.
-fn put_in(rows: &mut Rows, deletions: &mut Vec<Held>, incoming_rows: Rows, sweeps: Vec<Sweep>)
-    requires empty { AreEmptyOnly rows.old (keys incoming_rows) }
-    requires room { HasRoom rows.old incoming_rows.entries }
-    requires more { vec_len deletions.old + vec_len sweeps ≤ vec_capacity deletions.old }
-    requires cover { AllCover rows.old sweeps.items }
-    requires filed { IsFiled incoming_rows (deletions_of sweeps.items) }
-    requires content { HoldsContent rows.old deletions.old.items (Holds rows.old deletions.old.items) }
-    ensures content { HoldsContent rows.new deletions.new.items (Either (Holds rows.old deletions.old.items) (Holds incoming_rows (deletions_of sweeps.items))) }
-    ensures empty { AreEmptyOnly rows.new [] }
-    ensures known { AddsNoRow rows.old rows.new }
-    ensures ordered { IsStrictlySortedBy bytes_cmp (keys rows.new) }
-{
-    take_rows(rows, deletions, incoming_rows);
-    take_deletions(rows, deletions, sweeps);
-    stay_ordered(rows);
-}
-
-/// Whether each change of the first is in the same row of the second, or a deletion of rows there.
-fn are_all_among(rows: &Rows, deletions: &[Held], others: &Rows, beside: &[Held]) -> bool
-    requires { IsStrictlySortedBy bytes_cmp (keys rows.now) }
-    ensures { IsTrue result ↔ (((x : held_value) → Contains deletions.now x → Contains beside.now x) × ((q : List ℕ) (x : held_value) → Contains (held_at rows.now q) x → Contains (held_at others.now q) x)) }
-{
-    are_among(deletions, beside) && rows_are_among(rows, others)
-}
-
-/// Copies of rows and of deletions.
-fn copy_parts(alloc: Global, rows: &Rows, deletions: &[Held]) -> Result<Incoming, AllocError>
-    ensures rows { IfOk result (λ copy. shown_of copy.rows.entries ≡ shown_of rows.now.entries) }
-    ensures deletions { IfOk result (λ copy. copy.deletions.items ≡ deletions.now) }
-    ensures before { IsStrictlySortedBy bytes_cmp (keys rows.now) }
-    ensures sorted { IfOk result (λ copy. IsStrictlySortedBy bytes_cmp (keys copy.rows)) }
-{
-    let rows = copy_rows(alloc, all_rows(rows))?;
-    let deletions = copy_changes(alloc, deletions)?;
-    stay_ordered(&rows);
-    Ok(Incoming { rows, deletions })
+    ghost invariant = { λ a. IsSettled a.changes.items };
 }
 
 impl Content {
-    /// No changes, without an allocation. Further memory comes from this allocator.
+    /// No changes, without an allocation.
     pub fn new(alloc: Global) -> Content
         ensures { result ≡ [] }
     {
         Content {
-            rows: BTreeMap::new(alloc),
-            deletions: Vec::new(alloc),
-            alloc,
+            changes: Vec::new(alloc),
         }
     }
 
-    /// Takes in changes. First takes all the memory that this needs, then puts them in without a call that can fail.
-    fn take_in(&mut self, incoming: Incoming) -> Result<(), AllocError>
-        requires { IsFiled incoming.rows incoming.deletions.items }
-        ensures ok { OnOk result (IsContent self.new (Either (Contains self.old) (Holds incoming.rows incoming.deletions.items))) }
-        ensures err { OnErr result (self.new ≡ self.old) }
+    /// The content of changes in any order. Changes that are in order and that no deletion of rows among them covers are looked
+    /// at a few times; others are sorted, and each costs the logarithm of the number of deletions of rows, and again for each
+    /// deletion of a range around it. Only deletions of rows are copied.
+    pub fn from_changes(alloc: Global, changes: Vec<Held>) -> Result<Content, AllocError>
+        ensures { IfOk result (λ content. IsContent content (Contains changes.items)) }
     {
-        let Incoming { rows, deletions } = incoming;
-        match prepare(
-            &mut self.rows,
-            &mut self.deletions,
-            self.alloc,
-            &rows,
-            deletions,
-        ) {
-            Ok(sweeps) => {
-                put_in(&mut self.rows, &mut self.deletions, rows, sweeps);
-                Ok(())
-            }
-            Err(error) => {
-                drop_empty(&mut self.rows, &rows);
-                stay_ordered(&self.rows);
-                Err(error)
-            }
-        }
+        let changes = settled(alloc, changes)?;
+        Ok(Content { changes })
     }
 
-    /// Adds changes: the content is then that of the old one and these. A change costs the logarithm of the rows held, the
-    /// size of its row and the number of deletions of rows; a deletion of rows costs the rows that it takes with it besides.
-    pub fn apply(&mut self, changes: &Helds) -> Result<(), AllocError>
-        ensures ok { OnOk result (IsContent self.new (Either (Contains self.old) (Contains changes.now))) }
-        ensures err { OnErr result (self.new ≡ self.old) }
+    /// The changes, in order.
+    pub fn as_slice(&self) -> &[Held]
+        ensures value { result.now ≡ self.now }
+        ensures ordered { AreInOrder self.now }
+        ensures apart { AreApart self.now }
     {
-        let incoming = gather(self.alloc, changes.as_slice())?;
-        self.take_in(incoming)?;
-        Ok(())
+        &self.changes
     }
 
-    /// The content of both, at the cost of applying the changes of the other.
-    pub fn merge(&mut self, other: &Content) -> Result<(), AllocError>
-        ensures ok { OnOk result (IsMergeOf self.new self.old other.now) }
-        ensures err { OnErr result (self.new ≡ self.old) }
+    /// The changes, in order, without an allocation.
+    pub fn into_changes(self) -> Vec<Held>
+        ensures value { result.items ≡ self }
+        ensures ordered { AreInOrder self }
+        ensures apart { AreApart self }
     {
-        let incoming = copy_parts(self.alloc, &other.rows, &other.deletions)?;
-        self.take_in(incoming)?;
-        Ok(())
-    }
-
-    /// An equal content, in memory of its own.
-    pub fn copy(&self, alloc: Global) -> Result<Content, AllocError>
-        ensures { IfOk result (λ copy. copy ≡ self.now) }
-    {
-        let Incoming { rows, deletions } = copy_parts(alloc, &self.rows, &self.deletions)?;
-        Ok(Content {
-            rows,
-            deletions,
-            alloc,
-        })
-    }
-
-    /// What the rows between the bounds ask of the content: the changes of these rows, and the deletions of rows that meet
-    /// the bounds, in memory of their own. It costs the logarithm of the rows held, the changes given, and the number of
-    /// deletions of rows.
-    pub fn slice(&self, alloc: Global, from: &Bound, upto: &Bound) -> Result<Content, AllocError>
-        ensures { IfOk result (λ part. IsSlice from.now upto.now self.now part) }
-    {
-        let rows = copy_rows(alloc, rows_between(&self.rows, alloc, from, upto)?)?;
-        let deletions = copy_meeting(alloc, &self.deletions, from, upto)?;
-        stay_ordered(&rows);
-        Ok(Content {
-            rows,
-            deletions,
-            alloc,
-        })
-    }
-
-    /// Whether the other content has each change of this one.
-    fn is_within(&self, other: &Content) -> bool
-        ensures { IsTrue result ↔ ((x : held_value) → Contains self.now x → Contains other.now x) }
-    {
-        are_all_among(&self.rows, &self.deletions, &other.rows, &other.deletions)
-    }
-
-    /// Whether both have the same changes. It costs the rows of both, each by the logarithm and the square of its changes,
-    /// and the square of the number of deletions of rows.
-    pub fn same(&self, other: &Content) -> bool
-        ensures { IsTrue result ↔ AreSame self.now other.now }
-    {
-        self.is_within(other) && other.is_within(self)
+        self.changes
     }
 
     /// Whether there are no changes.
     pub fn is_empty(&self) -> bool
         ensures { IsTrue result ↔ (self.now ≡ []) }
     {
-        self.deletions.as_slice().is_empty() && self.rows.is_empty()
+        self.changes.as_slice().is_empty()
     }
 
-    /// The deletions of ranges of rows and of the whole partition, in no order.
-    pub fn deletions(&self) -> &[Held]
-        ensures { (x : held_value) → Contains result.now x ↔ (Contains self.now x × (row_of x.place ≡ None)) }
+    /// Whether both have the same changes, in one walk over both.
+    pub fn is_same(&self, other: &Content) -> bool
+        ensures { IsTrue result ↔ (self.now ≡ other.now) }
     {
-        &self.deletions
+        are_same(&self.changes, &other.changes)
     }
 
-    /// A walk over the rows between the bounds that have changes, each with its bytes and its changes, in clustering order or
-    /// by `rev` in reverse. It costs the logarithm of the rows held and the rows walked; only the bounds' bytes are copied.
-    pub fn rows<'a>(
-        &'a self,
-        alloc: Global,
-        from: &Bound,
-        upto: &Bound,
-    ) -> Result<Range<'a, Bytes, Vec<Held>>, AllocError>
-        ensures rows { IfOk result (λ walk. AreRowsBetween from.now upto.now self.now (shown_of walk)) }
-        ensures apart { IfOk result (λ walk. AreApart self.now) }
+    /// An equal content, in memory of its own.
+    pub fn copy(&self, alloc: Global) -> Result<Content, AllocError>
+        ensures { IfOk result (λ copy. copy ≡ self.now) }
     {
-        let walk = rows_between(&self.rows, alloc, from, upto)?;
-        Ok(walk)
+        let mut changes = Vec::new(alloc);
+        copy_onto(alloc, &mut changes, &self.changes)?;
+        Ok(Content { changes })
+    }
+
+    /// The content of both. Equal contents, as replicas mostly give them, are seen in one walk; of others it costs the
+    /// logarithm of the one for each change of the other, and again for each deletion of a range around that change. No change
+    /// is copied.
+    pub fn merge(self, alloc: Global, other: Content) -> Result<Content, AllocError>
+        ensures { IfOk result (λ merged. IsMergeOf merged self other) }
+    {
+        if self.is_same(&other) {
+            return Ok(self);
+        }
+        let changes = merged(alloc, self.changes, other.changes)?;
+        Ok(Content { changes })
+    }
+
+    /// What the rows between the bounds ask of the content: the changes of these rows, and the deletions of rows that meet
+    /// the bounds, in memory of their own. It costs the logarithm of the changes, the number of deletions of ranges, and the
+    /// changes given.
+    pub fn slice(&self, alloc: Global, from: &Bound, upto: &Bound) -> Result<Content, AllocError>
+        ensures { IfOk result (λ part. IsSlice from.now upto.now self.now part) }
+    {
+        let (wide, rows) = split_rows(&self.changes);
+        let mut changes = copy_meeting(alloc, wide, from, upto)?;
+        copy_onto(alloc, &mut changes, rows_between(rows, from, upto))?;
+        Ok(Content { changes })
+    }
+
+    /// A walk over the rows between the bounds that have changes, in clustering order or in reverse. It costs the logarithm of
+    /// the changes to begin; nothing is copied.
+    pub fn rows(&self, from: &Bound, upto: &Bound, reversed: bool) -> RowWalk<'_>
+        ensures rows { IsWalkOver from.now upto.now self.now reversed result }
+        ensures apart { AreApart self.now }
+    {
+        RowWalk::new(rows_between(&self.changes, from, upto), reversed)
     }
 }

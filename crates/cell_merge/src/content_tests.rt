@@ -1,10 +1,10 @@
-//! Contents: in each order of their changes, merged, sliced, walked, and beside the plain program.
+//! Contents: of changes in each order, merged, sliced, walked, and beside the plain program.
 
 ghost use Rattle.std.specs.Prelude.{◌<◌};
 
 use crate::{Content, PlainContent};
-use changes::{Bound, Held, Helds, Place};
-use cs_base::{Bytes, Items, Micros, NodeId, ReqId};
+use changes::{Bound, Held, Place, in_order};
+use cs_base::{Bytes, Micros, NodeId, ReqId};
 use std::alloc::{AllocError, Global};
 use std::test::Fail;
 
@@ -19,8 +19,9 @@ fn bound(alloc: Global, at: &str, after: bool) -> Result<Bound, AllocError> {
     })
 }
 
-fn rows_gone(alloc: Global, from: &str, upto: &str) -> Result<Place, AllocError> {
-    Ok(Place::RangeGone(bound(alloc, from, false)?, bound(alloc, upto, true)?))
+fn rows_gone(alloc: Global, from: &str, upto: &str, timestamp: i64) -> Result<Held, AllocError> {
+    let place = Place::RangeGone(bound(alloc, from, false)?, bound(alloc, upto, true)?);
+    Ok(held(place, None, timestamp))
 }
 
 fn held(place: Place, value: Option<Bytes>, timestamp: i64) -> Held {
@@ -41,37 +42,42 @@ fn cell(alloc: Global, row: &str, timestamp: i64) -> Result<Held, AllocError> {
     Ok(held(place, Some(bytes(alloc, "v")?), timestamp))
 }
 
-fn apply_one(alloc: Global, content: &mut Content, change: Held) -> Result<(), AllocError> {
-    let mut changes = Items::new(alloc);
-    changes.push(change)?;
-    content.apply(&changes)
+fn marker(alloc: Global, row: &str, timestamp: i64) -> Result<Held, AllocError> {
+    let place = Place::Marker(bytes(alloc, row)?);
+    Ok(held(place, Some(bytes(alloc, "")?), timestamp))
 }
 
 /// A cell, a marker, and the deletions of a row, of a range and of the partition, each later than some of the others.
 fn change_of_kind(alloc: Global, kind: u8) -> Result<Held, AllocError> {
     Ok(match kind {
         b'0' => cell(alloc, "b", 4)?,
-        b'1' => held(
-            Place::Marker(bytes(alloc, "c")?),
-            Some(bytes(alloc, "")?),
-            2,
-        ),
+        b'1' => marker(alloc, "c", 2)?,
         b'2' => held(Place::RowGone(bytes(alloc, "b")?), None, 3),
-        b'3' => held(rows_gone(alloc, "c", "d")?, None, 2),
+        b'3' => rows_gone(alloc, "c", "d", 2)?,
         _ => held(Place::PartGone, None, 1),
     })
 }
 
-fn applied_in_order(alloc: Global, order: &str) -> Result<Content, AllocError> {
+fn of_kinds(alloc: Global, kinds: &str) -> Result<Content, AllocError> {
+    let mut changes = Vec::new(alloc);
+    for kind in kinds.bytes() {
+        changes.push(change_of_kind(alloc, kind)?)?;
+    }
+    Content::from_changes(alloc, changes)
+}
+
+fn merged_one_by_one(alloc: Global, kinds: &str) -> Result<Content, AllocError> {
     let mut content = Content::new(alloc);
-    for kind in order.bytes() {
-        apply_one(alloc, &mut content, change_of_kind(alloc, kind)?)?;
+    for kind in kinds.bytes() {
+        let mut changes = Vec::new(alloc);
+        changes.push(change_of_kind(alloc, kind)?)?;
+        content = content.merge(alloc, Content::from_changes(alloc, changes)?)?;
     }
     Ok(content)
 }
 
 #[test]
-fn order_does_not_matter(rt: HostRuntime) -> Result<(), Fail> {
+fn order_and_repetition_do_not_matter(rt: HostRuntime) -> Result<(), Fail> {
     let alloc = rt.alloc();
     let orders =
         "01234 01243 01324 01342 01423 01432 02134 02143 02314 02341 02413 02431 03124 03142 03214 \
@@ -81,15 +87,29 @@ fn order_does_not_matter(rt: HostRuntime) -> Result<(), Fail> {
                   23014 23041 23104 23140 23401 23410 24013 24031 24103 24130 24301 24310 30124 30142 30214 \
                   30241 30412 30421 31024 31042 31204 31240 31402 31420 32014 32041 32104 32140 32401 32410 \
                   34012 34021 34102 34120 34201 34210 40123 40132 40213 40231 40312 40321 41023 41032 41203 \
-                  41230 41302 41320 42013 42031 42103 42130 42301 42310 43012 43021 43102 43120 43201 43210";
-    let expected = applied_in_order(alloc, "01234")?;
+                  41230 41302 41320 42013 42031 42103 42130 42301 42310 43012 43021 43102 43120 43201 43210 \
+                  0012234401";
+    let expected = of_kinds(alloc, "4320")?;
+    assert_eq!(rt; expected.as_slice().len(), 4);
     for order in orders.split_whitespace() {
-        let content = applied_in_order(alloc, order)?;
-        assert!(rt; content.same(&expected), "{order}");
+        assert!(rt; of_kinds(alloc, order)?.is_same(&expected), "{order}");
+        assert!(rt;
+            merged_one_by_one(alloc, order)?.is_same(&expected),
+            "{order}"
+        );
     }
-    assert_eq!(rt; expected.deletions().len(), 2);
-    assert!(rt; !expected.is_empty());
     Ok(())
+}
+
+fn of_rows(alloc: Global, rows: &str, more: Option<Held>) -> Result<Content, AllocError> {
+    let mut changes = Vec::new(alloc);
+    for row in rows.split_whitespace() {
+        changes.push(cell(alloc, row, 1)?)?;
+    }
+    if let Some(change) = more {
+        changes.push(change)?;
+    }
+    Content::from_changes(alloc, changes)
 }
 
 /// The rows of the content from one to another, each followed by its number of changes.
@@ -98,9 +118,11 @@ fn walked(
     content: &Content,
     from: &Bound,
     upto: &Bound,
+    reversed: bool,
 ) -> Result<String, AllocError> {
     let mut text = String::new(alloc);
-    for (row, changes) in content.rows(alloc, from, upto)? {
+    let mut walk = content.rows(from, upto, reversed);
+    while let Some((row, changes)) = walk.next_row() {
         for byte in row.as_slice() {
             text.push(char::from(*byte))?;
         }
@@ -109,79 +131,44 @@ fn walked(
     Ok(text)
 }
 
-fn walked_back(
-    alloc: Global,
-    content: &Content,
-    from: &Bound,
-    upto: &Bound,
-) -> Result<String, AllocError> {
-    let mut text = String::new(alloc);
-    for (row, _) in content.rows(alloc, from, upto)?.rev() {
-        for byte in row.as_slice() {
-            text.push(char::from(*byte))?;
-        }
-    }
-    Ok(text)
-}
-
-fn of_rows(alloc: Global, rows: &str) -> Result<Content, AllocError> {
-    let mut content = Content::new(alloc);
-    for row in rows.split_whitespace() {
-        apply_one(alloc, &mut content, cell(alloc, row, 1)?)?;
-    }
-    Ok(content)
-}
-
 #[test]
 fn rows_are_walked_between_bounds(rt: HostRuntime) -> Result<(), Fail> {
     let alloc = rt.alloc();
-    let mut content = of_rows(alloc, "d ba a bb c b")?;
-    let marker = held(
-        Place::Marker(bytes(alloc, "b")?),
-        Some(bytes(alloc, "")?),
-        1,
-    );
-    apply_one(alloc, &mut content, marker)?;
+    let first = of_rows(alloc, "d ba a bb c b", Some(marker(alloc, "b", 1)?))?;
+    let content = first.merge(
+        alloc,
+        of_rows(alloc, "", Some(rows_gone(alloc, "x", "z", 1)?))?,
+    )?;
     let cases = [
-        ("b", false, "b", true, "b+ba1bb1", "bbbab"),
-        ("b", true, "d", false, "c1", "c"),
-        ("", false, "", true, "a1b+ba1bb1c1d1", "dcbbbaba"),
+        ("b", false, "b", true, "b+ba1bb1", "bb1ba1b+"),
+        ("b", true, "d", false, "c1", "c1"),
+        ("", false, "", true, "a1b+ba1bb1c1d1", "d1c1bb1ba1b+a1"),
         ("", true, "d", false, "", ""),
-        ("ba", false, "c", false, "ba1bb1", "bbba"),
+        ("ba", false, "c", false, "ba1bb1", "bb1ba1"),
         ("c", true, "a", false, "", ""),
         ("a", true, "b", false, "", ""),
     ];
     for (from, behind, upto, with, forward, back) in cases {
         let from = bound(alloc, from, behind)?;
         let upto = bound(alloc, upto, with)?;
-        assert_eq!(rt; walked(alloc, &content, &from, &upto)?.as_str(), forward);
-        assert_eq!(rt; walked_back(alloc, &content, &from, &upto)?.as_str(), back);
+        assert_eq!(rt;
+            walked(alloc, &content, &from, &upto, false)?.as_str(),
+            forward
+        );
+        assert_eq!(rt; walked(alloc, &content, &from, &upto, true)?.as_str(), back);
     }
     Ok(())
-}
-
-/// The names of the rows of the content from one to another.
-fn names<'a>(
-    alloc: Global,
-    content: &'a Content,
-    from: &Bound,
-    upto: &Bound,
-) -> Result<Vec<&'a Bytes>, AllocError> {
-    let mut names = Vec::new(alloc);
-    for (row, _) in content.rows(alloc, from, upto)? {
-        names.push(row)?;
-    }
-    Ok(names)
 }
 
 #[test]
 fn bounds_of_greatest_bytes(rt: HostRuntime) -> Result<(), Fail> {
     let alloc = rt.alloc();
-    let mut content = Content::new(alloc);
+    let mut changes = Vec::new(alloc);
     for row in [b"\xfe\xff".as_slice(), b"\xff", b"\xff\xff", b"\xfe"] {
         let place = Place::Cell(Bytes::from_slice(alloc, row)?, 2);
-        apply_one(alloc, &mut content, held(place, None, 1))?;
+        changes.push(held(place, None, 1))?;
     }
+    let content = Content::from_changes(alloc, changes)?;
     let from = Bound {
         at: Bytes::from_slice(alloc, b"\xfe\xff")?,
         after: true,
@@ -190,62 +177,41 @@ fn bounds_of_greatest_bytes(rt: HostRuntime) -> Result<(), Fail> {
         at: Bytes::from_slice(alloc, b"\xff")?,
         after: true,
     };
-    assert_eq!(rt; names(alloc, &content, &from, &upto)?.len(), 2);
-    assert_eq!(rt; names(alloc, &content, &upto, &upto)?.len(), 0);
+    assert_eq!(rt; content.slice(alloc, &from, &upto)?.as_slice().len(), 2);
+    assert!(rt; content.slice(alloc, &upto, &upto)?.is_empty());
     Ok(())
 }
 
 #[test]
 fn merged_contents_have_both(rt: HostRuntime) -> Result<(), Fail> {
     let alloc = rt.alloc();
-    let mut first = of_rows(alloc, "a b d")?;
-    let mut second = of_rows(alloc, "b c")?;
-    apply_one(
-        alloc,
-        &mut second,
-        held(rows_gone(alloc, "a", "a")?, None, 1),
-    )?;
-    let before = first.copy(alloc)?;
-    assert!(rt; before.same(&first));
-    first.merge(&second)?;
-    let mut expected = of_rows(alloc, "c d b")?;
-    apply_one(
-        alloc,
-        &mut expected,
-        held(rows_gone(alloc, "a", "a")?, None, 1),
-    )?;
-    assert!(rt; first.same(&expected));
-    assert!(rt; expected.same(&first));
-    assert!(rt; !first.same(&before));
-    assert!(rt; !first.same(&second));
-    assert!(rt; !second.same(&first));
+    let first = of_rows(alloc, "a b d", None)?;
+    let second = of_rows(alloc, "b c", Some(rows_gone(alloc, "a", "a", 1)?))?;
+    assert!(rt; !first.is_same(&second));
+    let copy = first.copy(alloc)?;
+    assert!(rt; copy.is_same(&first));
+    let expected = of_rows(alloc, "c d b", Some(rows_gone(alloc, "a", "a", 1)?))?;
+    let both = first.merge(alloc, second)?;
+    assert!(rt; both.is_same(&expected));
+    assert!(rt; !both.is_same(&copy));
+    let wide = both.copy(alloc)?.merge(alloc, Content::new(alloc))?;
+    assert!(rt; wide.is_same(&both));
+    assert!(rt; Content::new(alloc).merge(alloc, wide)?.is_same(&both));
+    assert_eq!(rt; both.into_changes().len(), 4);
     Ok(())
 }
 
 #[test]
 fn slices_have_what_meets_the_bounds(rt: HostRuntime) -> Result<(), Fail> {
     let alloc = rt.alloc();
-    let mut content = of_rows(alloc, "a b c d")?;
-    apply_one(
-        alloc,
-        &mut content,
-        held(rows_gone(alloc, "aa", "ab")?, None, 9),
-    )?;
-    apply_one(
-        alloc,
-        &mut content,
-        held(rows_gone(alloc, "e", "f")?, None, 9),
-    )?;
+    let gone = of_rows(alloc, "", Some(rows_gone(alloc, "e", "f", 9)?))?;
+    let content = of_rows(alloc, "a b c d", Some(rows_gone(alloc, "aa", "ab", 9)?))?;
+    let content = content.merge(alloc, gone)?;
     let from = bound(alloc, "ab", true)?;
     let upto = bound(alloc, "d", false)?;
     let part = content.slice(alloc, &from, &upto)?;
-    let mut expected = of_rows(alloc, "c b")?;
-    apply_one(
-        alloc,
-        &mut expected,
-        held(rows_gone(alloc, "aa", "ab")?, None, 9),
-    )?;
-    assert!(rt; part.same(&expected));
+    let expected = of_rows(alloc, "c b", Some(rows_gone(alloc, "aa", "ab", 9)?))?;
+    assert!(rt; part.is_same(&expected));
     assert!(rt; Content::new(alloc).slice(alloc, &from, &upto)?.is_empty());
     Ok(())
 }
@@ -283,11 +249,11 @@ fn random_bound(alloc: Global, numbers: &mut Numbers) -> Result<Bound, AllocErro
 }
 
 fn random_place(alloc: Global, numbers: &mut Numbers) -> Result<Place, AllocError> {
-    Ok(match numbers.next(12) {
+    Ok(match numbers.next(24) {
         0 => Place::Marker(random_row(alloc, numbers)?),
-        1 => Place::RowGone(random_row(alloc, numbers)?),
-        2 => Place::RangeGone(random_bound(alloc, numbers)?, random_bound(alloc, numbers)?),
-        3 => Place::PartGone,
+        1 | 2 => Place::RowGone(random_row(alloc, numbers)?),
+        3..=10 => Place::RangeGone(random_bound(alloc, numbers)?, random_bound(alloc, numbers)?),
+        11 => Place::PartGone,
         _ => Place::Cell(random_row(alloc, numbers)?, numbers.next(3) as u8),
     })
 }
@@ -302,36 +268,20 @@ fn random_change(alloc: Global, numbers: &mut Numbers) -> Result<Held, AllocErro
     Ok(held(place, value, numbers.next(40) as i64))
 }
 
-fn random_changes(alloc: Global, numbers: &mut Numbers, count: u64) -> Result<Helds, AllocError> {
-    let mut changes = Items::new(alloc);
-    for _ in 0..count {
+fn random_changes(alloc: Global, numbers: &mut Numbers) -> Result<Vec<Held>, AllocError> {
+    let mut changes = Vec::new(alloc);
+    for _ in 0..numbers.next(30) {
         changes.push(random_change(alloc, numbers)?)?;
     }
     Ok(changes)
 }
 
-/// All changes of a content.
-fn all_changes<'a>(alloc: Global, content: &'a Content) -> Result<Vec<&'a Held>, AllocError> {
-    let mut found = Vec::new(alloc);
-    for x in content.deletions() {
-        found.push(x)?;
+fn copied(alloc: Global, changes: &[Held]) -> Result<Vec<Held>, AllocError> {
+    let mut copies = Vec::new(alloc);
+    for x in changes {
+        copies.push(x.copy(alloc)?)?;
     }
-    let from = bound(alloc, "", false)?;
-    let upto = bound(alloc, "", true)?;
-    for (_, changes) in content.rows(alloc, &from, &upto)? {
-        for x in changes {
-            found.push(x)?;
-        }
-    }
-    Ok(found)
-}
-
-fn are_found(found: &[&Held], plain: &PlainContent) -> bool {
-    found.len() == plain.as_slice().len()
-        && plain
-            .as_slice()
-            .iter()
-            .all(|x| found.iter().any(|y| **y == *x))
+    Ok(copies)
 }
 
 #[test]
@@ -341,12 +291,13 @@ fn contents_are_as_plain_ones(rt: HostRuntime) -> Result<(), Fail> {
     for _ in 0..40 {
         let mut content = Content::new(alloc);
         let mut plain = PlainContent::new(alloc);
-        for _ in 0..15 {
-            let count = numbers.next(4);
-            let changes = random_changes(alloc, &mut numbers, count)?;
-            content.apply(&changes)?;
-            plain.apply(&changes)?;
-            assert!(rt; are_found(&all_changes(alloc, &content)?, &plain));
+        for _ in 0..6 {
+            let changes = random_changes(alloc, &mut numbers)?;
+            let incoming = Content::from_changes(alloc, copied(alloc, &changes)?)?;
+            content = content.merge(alloc, incoming)?;
+            plain.apply(changes)?;
+            let expected = in_order(copied(alloc, plain.as_slice())?);
+            assert!(rt; content.as_slice() == expected.as_slice());
         }
     }
     Ok(())

@@ -1,19 +1,16 @@
-//! Which of two changes wins, and the contents of partitions: the changes that win over all others there.
+//! The contents of partitions as they go between nodes: changes in order, none of which another one there outranks.
 #![tactic(auto)]
 
 mod content;
 #[cfg(test)]
 mod content_tests;
-mod edges;
-mod incoming;
-mod order;
+mod lists;
 mod plain;
-mod rows;
-mod sweeps;
-#[cfg(test)]
-mod tests;
+mod ranges;
+mod ranking;
 mod walk;
 
 pub use content::Content;
-pub use order::{beats, covers, outranks};
 pub use plain::PlainContent;
+pub use ranges::RangeIndex;
+pub use walk::RowWalk;

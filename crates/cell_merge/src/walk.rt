@@ -1,121 +1,129 @@
-//! Walks over the rows between two bounds, and copies of them.
+//! A walk over rows of a content, from either end.
 
-ghost use Rattle.std.specs.Prelude.{◌≡◌, ◌≢◌, ℕ, List, false, IfOk, IsSome, filter, Contains, map};
-ghost use Rattle.std.specs.Map.{keys_of};
-ghost use Rattle.std.specs.Map.Iter.{ShowsInOrder, ShowsInReverse, deref_pair};
-ghost use Rattle.std.specs.List.Sorted.{IsStrictlySortedBy};
-ghost use Rattle.std.specs.BTreeMap.{get, keys};
-ghost use Rattle.changes.specs.Order.{Encloses};
-ghost use Rattle.changes.specs.declared.Place.TheVariants.{RowGone};
-ghost use Rattle.cell_merge.specs.Tests.{is_between_by};
-ghost use Rattle.cell_merge.specs.Rows.{bytes_cmp, listed, shown_of, FitRows};
-ghost use Rattle.cell_merge.specs.Edges.{is_in_span, edge_of};
+ghost use Rattle.std.specs.Prelude.{◌≡◌, ◌↔◌, ◌∷◌, ◌<◌, ◌≤◌, ◌-◌, [], Some, IsTrue, IfSome, IfNone, length};
+ghost use Rattle.changes.specs.Order.{row_of};
+ghost use Rattle.cell_merge.specs.Walks.{AllOf, AreOfRows, IsFirstRow, IsLastRow, IsNextRow, IsNotOf, by_rows, in_direction};
 
-use crate::edges::edge;
-use crate::plain::copy_changes;
-use crate::rows::Rows;
-use changes::{Bound, Held, Place};
+use changes::Held;
 use cs_base::Bytes;
-use std::alloc::{AllocError, Global};
-use std::collections::BTreeMap;
-use std::collections::btree_map::Range;
-use std::ops;
+use std::marker::Model;
 
-/// No rows.
-fn no_rows<'a>(rows: &'a Rows, at: &Bytes) -> Range<'a, Bytes, Vec<Held>>
-    ensures rest { result ≡ filter (λ e. false) rows.now.entries }
-    ensures ordered { IsStrictlySortedBy bytes_cmp (keys rows.now) }
+fn is_in_row(x: &Held, row: &Bytes) -> bool
+    ensures { IsTrue result ↔ (row_of x.now.place ≡ Some row.now) }
 {
-    rows.range((ops::Bound::Included(at), ops::Bound::Excluded(at)))
+    match x.place.row() {
+        Some(own) => own == row,
+        None => false,
+    }
 }
 
-/// The rows from one on, up to before another one, or to the last.
-fn span<'a>(rows: &'a Rows, low: &Bytes, high: &Option<Bytes>) -> Range<'a, Bytes, Vec<Held>>
-    ensures rest { result ≡ filter (λ e. is_in_span low.now high.now e.0) rows.now.entries }
-    ensures ordered { IsStrictlySortedBy bytes_cmp (keys rows.now) }
+/// How many changes from the first on are in the row.
+fn row_end(changes: &[Held], row: &Bytes) -> usize
+    ensures bound { result ≤ length changes.now }
+    ensures front { AllOf row.now changes.now 0 result }
+    ensures next { result < length changes.now → IsNotOf row.now changes.now result }
 {
-    match high {
-        None => rows.range((ops::Bound::Included(low), ops::Bound::Unbounded)),
-        Some(high) => {
-            if low < high {
-                rows.range((ops::Bound::Included(low), ops::Bound::Excluded(high)))
-            } else {
-                no_rows(rows, low)
-            }
+    for (i, x) in changes.iter().enumerate() {
+        if !is_in_row(x, row) {
+            return i;
         }
     }
+    changes.len()
 }
 
-/// The rows between the bounds, in clustering order, at the cost of the logarithm of the rows and of those walked.
-pub(crate) fn rows_between<'a>(
-    rows: &'a Rows,
-    alloc: Global,
-    from: &Bound,
-    upto: &Bound,
-) -> Result<Range<'a, Bytes, Vec<Held>>, AllocError>
-    requires { FitRows rows.now }
-    ensures { IfOk result (λ rest. rest ≡ filter (λ e. is_between_by from.now upto.now e.0) rows.now.entries) }
+/// Where the changes begin that are in the row up to the last.
+fn row_start(changes: &[Held], row: &Bytes) -> usize
+    ensures bound { result ≤ length changes.now }
+    ensures back { AllOf row.now changes.now result (length changes.now) }
+    ensures before { 0 < result → IsNotOf row.now changes.now (result - 1) }
 {
-    let low = edge(alloc, from)?;
-    let high = edge(alloc, upto)?;
-    match &low {
-        Some(low) => Ok(span(rows, low, &high)),
-        None => Ok(no_rows(rows, &from.at)),
-    }
-}
-
-/// All rows, in clustering order.
-pub(crate) fn all_rows(rows: &Rows) -> Range<'_, Bytes, Vec<Held>>
-    ensures rest { result ≡ rows.now.entries }
-    ensures ordered { IsStrictlySortedBy bytes_cmp (keys rows.now) }
-{
-    rows.range(..)
-}
-
-/// Equal rows, in memory of their own.
-pub(crate) fn copy_rows(
-    alloc: Global,
-    walk: Range<'_, Bytes, Vec<Held>>,
-) -> Result<Rows, AllocError>
-    requires { IsStrictlySortedBy bytes_cmp (keys_of walk) }
-    ensures { IfOk result (λ copy. shown_of copy.entries ≡ shown_of walk.entry) }
-{
-    let mut copy = BTreeMap::new(alloc);
-    for (row, changes) in walk {
-        copy.insert(row.copy(alloc)?, copy_changes(alloc, changes)?)?;
-    }
-    Ok(copy)
-}
-
-/// The names of rows, in memory of their own.
-fn copy_names(alloc: Global, walk: Range<'_, Bytes, Vec<Held>>) -> Result<Vec<Bytes>, AllocError>
-    ensures { IfOk result (λ names. names.items ≡ keys_of walk.entry) }
-{
-    let mut names = Vec::new(alloc);
-    for (row, _) in walk {
-        names.push(row.copy(alloc)?)?;
-    }
-    Ok(names)
-}
-
-/// The names of the rows that a deletion of rows takes with it.
-pub(crate) fn names_under(
-    alloc: Global,
-    rows: &Rows,
-    place: &Place,
-) -> Result<Vec<Bytes>, AllocError>
-    requires { FitRows rows.now }
-    ensures { IfOk result (λ names. (q : List ℕ) → IsSome (get bytes_cmp rows.now q) → Encloses place.now (RowGone q) → Contains names.items q) }
-{
-    match place {
-        Place::RangeGone(from, upto) => {
-            let names = copy_names(alloc, rows_between(rows, alloc, from, upto)?)?;
-            Ok(names)
+    let mut start = changes.len();
+    while 0 < start {
+        let x = &changes[start - 1];
+        if !is_in_row(x, row) {
+            break;
         }
-        Place::PartGone => {
-            let names = copy_names(alloc, all_rows(rows))?;
-            Ok(names)
+        start -= 1;
+    }
+    start
+}
+
+/// The first row, its changes, and the changes of the other rows.
+fn first_row(changes: &[Held]) -> Option<(&Bytes, &[Held], &[Held])>
+    requires { AreOfRows changes.now }
+    ensures none { IfNone result (changes.now ≡ []) }
+    ensures some { IfSome result (λ r. IsFirstRow changes.now r.0.now r.1.now r.2.now) }
+{
+    let first = changes.first()?;
+    let row = first.place.row()?;
+    let (front, rest) = changes.split_at(row_end(changes, row));
+    Some((row, front, rest))
+}
+
+/// The last row, its changes, and the changes of the other rows.
+fn last_row(changes: &[Held]) -> Option<(&Bytes, &[Held], &[Held])>
+    requires { AreOfRows changes.now }
+    ensures none { IfNone result (changes.now ≡ []) }
+    ensures some { IfSome result (λ r. IsLastRow changes.now r.0.now r.1.now r.2.now) }
+{
+    let last = changes.last()?;
+    let row = last.place.row()?;
+    let (rest, back) = changes.split_at(row_start(changes, row));
+    Some((row, back, rest))
+}
+
+/// The next row in the direction, its changes, and the changes of the other rows.
+fn split_row(changes: &[Held], reversed: bool) -> Option<(&Bytes, &[Held], &[Held])>
+    requires { AreOfRows changes.now }
+    ensures none { IfNone result (changes.now ≡ []) }
+    ensures some { IfSome result (λ r. IsNextRow reversed changes.now r.0.now r.1.now r.2.now) }
+{
+    if reversed {
+        last_row(changes)
+    } else {
+        first_row(changes)
+    }
+}
+
+/// A walk over rows, each with its bytes and its changes in order, in clustering order or in reverse. A step costs the changes
+/// of the row that it gives.
+#[derive(Drop)]
+pub struct RowWalk<'a> {
+    rest: &'a [Held],
+    reversed: bool,
+}
+
+impl<'a> Model for RowWalk<'a> {
+    ghost use Rattle.std.specs.Prelude.{ℕ, List};
+    ghost use Rattle.changes.specs.declared.Held.{Held};
+    ghost use Rattle.cell_merge.specs.Walks.{by_rows, in_direction, AreOfRows};
+
+    ghost Value = { List (List ℕ × List Held) };
+
+    ghost view = { λ a. in_direction a.reversed (by_rows a.rest.now) };
+
+    ghost invariant = { λ a. AreOfRows a.rest.now };
+}
+
+impl<'a> RowWalk<'a> {
+    /// A walk over the rows of these changes.
+    pub(crate) fn new(changes: &'a [Held], reversed: bool) -> RowWalk<'a>
+        requires { AreOfRows changes.now }
+        ensures { result ≡ in_direction reversed (by_rows changes.now) }
+    {
+        RowWalk {
+            rest: changes,
+            reversed,
         }
-        _ => Ok(Vec::new(alloc)),
+    }
+
+    /// The next row, with its changes.
+    pub fn next_row(&mut self) -> Option<(&'a Bytes, &'a [Held])>
+        ensures none { IfNone result ((self.old ≡ []) × (self.new ≡ [])) }
+        ensures some { IfSome result (λ r. self.old ≡ (r.0.now, r.1.now) ∷ self.new) }
+    {
+        let (row, changes, rest) = split_row(self.rest, self.reversed)?;
+        self.rest = rest;
+        Some((row, changes))
     }
 }

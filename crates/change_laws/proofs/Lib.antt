@@ -1,6 +1,4 @@
-pub mod Members
-pub mod OrderLaws
-pub mod SignLaws
-pub mod ContentLaws
-pub mod StandsLaws
-pub mod PartitionLaws
+pub mod Outranking
+pub mod Contents
+pub mod Slices
+pub mod Purges

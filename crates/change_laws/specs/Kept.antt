@@ -3,6 +3,7 @@ use Rattle.std.specs.Prelude.{◌≡◌, ◌⊎◌, ◌↔◌, Bool, IsTrue, Lis
 use Rattle.changes.specs.declared.Bound.{Bound}
 use Rattle.changes.specs.declared.Held.{Held}
 use Rattle.changes.specs.Order.{IsDeletion, Covers, Outranks}
+use Rattle.changes.specs.Places.{AreInOrder}
 use Rattle.changes.specs.Contents.{Either, AreApart, IsReachedBy, IsContent, IsMergeOf, AreSame}
 use Rattle.changes.specs.Shown.{IsTop}
 use Rattle.changes.specs.Queries.{MeetsBounds, IsSlice}
@@ -39,6 +40,36 @@ MergeRepeats = (a : List Held) → AreApart a → IsMergeOf a a a
 -- it does not matter which two of three are merged first
 abbrev pub MergeAssociates : Type 0
 MergeAssociates = (a b c ab bc kept : List Held) → IsMergeOf ab a b → IsMergeOf kept ab c → IsMergeOf bc b c → IsMergeOf kept a bc
+
+-- nothing of the list outranks x
+abbrev pub IsNotOutranked : List Held → Held → Type 0
+IsNotOutranked kept x = (y : Held) → Contains kept y → Outranks y x → ⊥
+
+-- merging two contents keeps of each the changes that nothing of the other outranks
+abbrev pub MergeKeeps : Type 0
+MergeKeeps =
+    (a b kept : List Held) → AreApart a → AreApart b → IsMergeOf kept a b
+    → (x : Held) → Contains kept x ↔ ((Contains a x × IsNotOutranked b x) ⊎ (Contains b x × IsNotOutranked a x))
+
+-- ---- in order
+
+-- a set has one content in the order of places
+abbrev pub ContentInOrderIsOne : (Held → Type 0) → Type 0
+ContentInOrderIsOne S = (a b : List Held) → IsContent a S → IsContent b S → AreInOrder a → AreInOrder b → a ≡ b
+
+-- lists in order have the same changes exactly where they are equal
+abbrev pub SameInOrderAreEqual : Type 0
+SameInOrderAreEqual = (a b : List Held) → AreInOrder a → AreInOrder b → AreSame a b ↔ (a ≡ b)
+
+-- two contents have one merge in order
+abbrev pub MergeInOrderIsOne : Type 0
+MergeInOrderIsOne = (a b kept other : List Held) → IsMergeOf kept a b → IsMergeOf other a b → AreInOrder kept → AreInOrder other → kept ≡ other
+
+-- and a content one slice in order
+abbrev pub SliceInOrderIsOne : Type 0
+SliceInOrderIsOne =
+    (from upto : Bound) (content part other : List Held) → IsSlice from upto content part → IsSlice from upto content other
+    → AreInOrder part → AreInOrder other → part ≡ other
 
 -- ---- slices
 

@@ -1,11 +1,11 @@
-//! Laws of changes and of contents: what outranks what is a strict order, a set has one content however it was merged,
-//! and what slices and purges leave of it.
+//! Laws of changes and of contents: what outranks what is a strict order, a set has one content however it was merged, one
+//! list in the order of places, and what slices and purges leave of it.
 #![tactic(auto)]
 
 ghost use Rattle.std.specs.Prelude.{Bool};
 ghost use Rattle.changes.specs.declared.Held.{Held as held_value};
 ghost use Rattle.change_laws.specs.Laws.{OutranksIsStrict};
-ghost use Rattle.change_laws.specs.Kept.{In, ContentIsOne, ContentIsTops, MergeIsOfBoth, MergeCommutes, MergeRepeats, MergeAssociates, BoundsAreMetAbove, SliceIsContent, ContentStands, StandsForSame, StandsForOnto, StandsForMerge, StandsForSlice, StandsForPurged};
+ghost use Rattle.change_laws.specs.Kept.{In, ContentIsOne, ContentIsTops, MergeIsOfBoth, MergeCommutes, MergeRepeats, MergeAssociates, MergeKeeps, ContentInOrderIsOne, SameInOrderAreEqual, MergeInOrderIsOne, SliceInOrderIsOne, BoundsAreMetAbove, SliceIsContent, ContentStands, StandsForSame, StandsForOnto, StandsForMerge, StandsForSlice, StandsForPurged};
 
 /// Outranking is a strict order: nothing outranks itself, and what a change outranks falls with it.
 pub fn outranking_is_strict()
@@ -25,6 +25,20 @@ pub fn merging_is_free_of_order()
     ensures commutes { MergeCommutes }
     ensures repeats { MergeRepeats }
     ensures associates { MergeAssociates }
+{}
+
+/// Merging two contents keeps of each just the changes that nothing of the other outranks.
+pub fn merge_keeps_what_stands()
+    ensures { MergeKeeps }
+{}
+
+/// In the order of places a set of changes has one content, two contents one merge and a content one slice: contents in order
+/// have the same changes exactly where their lists are equal.
+pub fn content_in_order_is_one()
+    ensures one { (S : held_value → Bool) → ContentInOrderIsOne (In S) }
+    ensures same { SameInOrderAreEqual }
+    ensures merge { MergeInOrderIsOne }
+    ensures slice { SliceInOrderIsOne }
 {}
 
 /// The slice of a content is the content of the slice, since what outranks a change of the slice is in the slice.

@@ -1,6 +1,6 @@
 -- Contents: what is left of a set of changes when each that another one outranks is left out. A set of changes of one
 -- partition is a predicate. After Cassandra's storage engine ("Tombstones", "Compaction"): merging keeps what wins.
-use Rattle.std.specs.Prelude.{◌≡◌, ◌⊎◌, List, Contains}
+use Rattle.std.specs.Prelude.{◌⊎◌, List, Contains}
 use Rattle.changes.specs.declared.Held.{Held}
 use Rattle.changes.specs.Order.{Outranks}
 

@@ -1,5 +1,10 @@
 pub mod Order
+pub mod Places
+pub mod Lengths
 pub mod Shown
 pub mod Contents
 pub mod Queries
 pub mod Drafts
+pub mod Tests
+pub mod Laws
+pub mod Totals

@@ -117,6 +117,6 @@ Outranks x y = Beats x y ⊎ (Covers x y × (x ≢ y))
 abbrev pub IsBeside : Held → Held → Type 0
 IsBeside x y = (x ≡ y) ⊎ ((row : List ℕ) × (row_of x.place ≡ Some row) × (row_of y.place ≡ Some row))
 
--- partitions by table, then token, then key
+-- partitions by token, then table, then key
 abbrev pub partition_cmp : Partition → Partition → Ordering
-partition_cmp a b = ordering_then (nat_cmp a.table b.table) (ordering_then (int_cmp a.token b.token) (slice_cmp nat_cmp a.key b.key))
+partition_cmp a b = ordering_then (int_cmp a.token b.token) (ordering_then (nat_cmp a.table b.table) (slice_cmp nat_cmp a.key b.key))

@@ -18,11 +18,11 @@ pub(crate) fn copy_value(alloc: Global, value: &Option<Bytes>) -> Result<Option<
 fn copy_helds(alloc: Global, helds: &Helds) -> Result<Helds, AllocError>
     ensures { IfOk result (λ copy. copy ≡ helds.now) }
 {
-    let mut copy = Items::new(alloc);
+    let mut copy = Vec::with_capacity(alloc, helds.as_slice().len())?;
     for held in helds.as_slice() {
         copy.push(held.copy(alloc)?)?;
     }
-    Ok(copy)
+    Ok(Items::from_vec(copy))
 }
 
 impl Partition {

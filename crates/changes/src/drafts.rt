@@ -4,7 +4,8 @@ ghost use Rattle.std.specs.Prelude.{◌≡◌, ◌<◌, ◌^◌, map, IfOk};
 ghost use Rattle.changes.specs.Drafts.{held_of, timestamp_of, mutation_of};
 
 use crate::copies::copy_value;
-use crate::{Draft, DraftMutation, Drafts, Held, Helds, Mutation};
+use crate::storing::in_order;
+use crate::{Draft, DraftMutation, Drafts, Held, Mutation};
 use cs_base::{Items, Micros, ReqId};
 use std::alloc::{AllocError, Global};
 
@@ -35,11 +36,11 @@ impl Draft {
     }
 }
 
-fn helds_of(alloc: Global, drafts: &Drafts, request: ReqId) -> Result<Helds, AllocError>
+fn helds_of(alloc: Global, drafts: &Drafts, request: ReqId) -> Result<Vec<Held>, AllocError>
     requires { request.time < 2 ^ 63 }
-    ensures { IfOk result (λ helds. helds ≡ map (held_of request) drafts.now) }
+    ensures { IfOk result (λ helds. helds.items ≡ map (held_of request) drafts.now) }
 {
-    let mut helds = Items::new(alloc);
+    let mut helds = Vec::with_capacity(alloc, drafts.as_slice().len())?;
     for draft in drafts.as_slice() {
         helds.push(draft.held(alloc, request)?)?;
     }
@@ -47,14 +48,15 @@ fn helds_of(alloc: Global, drafts: &Drafts, request: ReqId) -> Result<Helds, All
 }
 
 impl DraftMutation {
-    /// The changes that a request makes of it.
+    /// The changes that a request makes of it: in the order of places, and of several of one place the one that beats the
+    /// others.
     pub fn mutation(&self, alloc: Global, request: ReqId) -> Result<Mutation, AllocError>
         requires { request.time < 2 ^ 63 }
         ensures { IfOk result (λ mutation. mutation ≡ mutation_of request self.now) }
     {
         Ok(Mutation {
             partition: self.partition.copy(alloc)?,
-            changes: helds_of(alloc, &self.changes, request)?,
+            changes: Items::from_vec(in_order(helds_of(alloc, &self.changes, request)?)),
         })
     }
 }

@@ -6,28 +6,39 @@
 
 mod copies;
 mod drafts;
+mod encoded;
+mod laws;
+mod order;
+#[cfg(test)]
+mod order_tests;
+mod storing;
 #[cfg(test)]
 mod tests;
+mod winning;
 
 use cs_base::{Bytes, Items, Micros, ReqId};
+pub use encoded::encoded_length;
+pub use laws::{lengths_add_up, one_change_of_each_place, places_are_ordered};
+pub use storing::{are_in_order, in_order};
+pub use winning::value_order;
 
-/// A partition: its table, and the key whose token places it.
-#[derive(Debug, PartialEq, Eq, PartialOrd, Ord, Drop)]
+/// A partition: its table, and the key whose token places it. Partitions are in order of token, then table, then key.
+#[derive(Debug, PartialEq, Eq, Drop)]
 pub struct Partition {
-    pub table: u16,
     pub token: i64,
+    pub table: u16,
     pub key: Bytes,
 }
 
 /// An end of a range of rows: before all rows whose bytes begin with `at`, or behind them.
-#[derive(Debug, PartialEq, Eq, Drop)]
+#[derive(Debug, Drop)]
 pub struct Bound {
     pub at: Bytes,
     pub after: bool,
 }
 
 /// Where a change stands in its partition.
-#[derive(Debug, PartialEq, Eq, Drop)]
+#[derive(Debug, Drop)]
 pub enum Place {
     /// A cell, by its row and column.
     Cell(Bytes, u8),

@@ -105,43 +105,69 @@ fn mutations_are_copied_whole(rt: HostRuntime) -> Result<(), Fail> {
     Ok(())
 }
 
-fn draft(alloc: Global, timestamp: Option<i64>) -> Result<Draft, AllocError> {
+/// A draft that sets the column of one row to "v".
+fn draft(alloc: Global, column: u8, timestamp: Option<i64>) -> Result<Draft, AllocError> {
     Ok(Draft {
-        place: Place::Cell(bytes(alloc, "r")?, 2),
+        place: Place::Cell(bytes(alloc, "r")?, column),
         value: Some(bytes(alloc, "v")?),
         timestamp,
     })
 }
 
-fn is_made(alloc: Global, change: &Held, timestamp: i64) -> Result<bool, AllocError> {
-    let expected = Held {
-        place: Place::Cell(bytes(alloc, "r")?, 2),
+fn made(alloc: Global, column: u8, timestamp: i64) -> Result<Held, AllocError> {
+    Ok(Held {
+        place: Place::Cell(bytes(alloc, "r")?, column),
         value: Some(bytes(alloc, "v")?),
         timestamp,
         submitted: Micros::new(9),
         request: request(),
+    })
+}
+
+/// What the request makes of these drafts, by their columns and timestamps.
+fn changes_of(alloc: Global, drafts: &[(u8, Option<i64>)]) -> Result<Mutation, AllocError> {
+    let mut changes = Items::new(alloc);
+    for (column, timestamp) in drafts {
+        changes.push(draft(alloc, *column, *timestamp)?)?;
+    }
+    let draft = DraftMutation {
+        partition: partition(alloc)?,
+        changes,
     };
-    Ok(*change == expected)
+    draft.mutation(alloc, request())
 }
 
 #[test]
 fn drafts_get_the_time_of_their_request(rt: HostRuntime) -> Result<(), Fail> {
     let alloc = rt.alloc();
-    let mut changes = Items::new(alloc);
-    changes.push(draft(alloc, Some(-2))?)?;
-    changes.push(draft(alloc, None)?)?;
-    let draft = DraftMutation {
-        partition: partition(alloc)?,
-        changes,
-    };
-    let mutation = draft.mutation(alloc, request())?;
-    assert!(rt; mutation.partition == draft.partition);
+    let mutation = changes_of(alloc, &[(2, Some(-2)), (3, None)])?;
+    assert!(rt; mutation.partition == partition(alloc)?);
     match mutation.changes.as_slice() {
         [first, second] => {
-            assert!(rt; is_made(alloc, first, -2)?);
-            assert!(rt; is_made(alloc, second, 9)?);
+            assert!(rt; *first == made(alloc, 2, -2)?);
+            assert!(rt; *second == made(alloc, 3, 9)?);
         }
         _ => assert!(rt; false),
+    }
+    Ok(())
+}
+
+#[test]
+fn a_batch_changes_each_place_once(rt: HostRuntime) -> Result<(), Fail> {
+    let alloc = rt.alloc();
+    let cases = [
+        ([(2, Some(7)), (2, None)], 9),
+        ([(2, None), (2, Some(7))], 9),
+        ([(2, None), (2, Some(11))], 11),
+        ([(2, Some(11)), (2, None)], 11),
+        ([(2, None), (2, None)], 9),
+    ];
+    for (drafts, timestamp) in cases {
+        let mutation = changes_of(alloc, &drafts)?;
+        match mutation.changes.as_slice() {
+            [only] => assert!(rt; *only == made(alloc, 2, timestamp)?),
+            _ => assert!(rt; false),
+        }
     }
     Ok(())
 }

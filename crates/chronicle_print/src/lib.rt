@@ -4,7 +4,6 @@
 mod lines;
 mod printer;
 mod rows;
-#[cfg(test)]
-mod tests;
 
+pub use lines::push_number;
 pub use printer::print_chronicle;

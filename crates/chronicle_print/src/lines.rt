@@ -7,7 +7,8 @@ ghost use Rattle.chronicle_print.specs.Printed.{acked_line, used_line, data_text
 use peer_messages::{Invalid, Refusal};
 use std::alloc::{AllocError, Global};
 
-pub(crate) fn push_number(alloc: Global, out: &mut Vec<u8>, number: u64) -> Result<(), AllocError>
+/// Puts the decimal digits of a number behind what is there.
+pub fn push_number(alloc: Global, out: &mut Vec<u8>, number: u64) -> Result<(), AllocError>
     ensures { OnOk result (out.new.items ≡ out.old.items ++ decimal number) }
 {
     let digits = number.to_string(alloc)?;

@@ -12,7 +12,7 @@ use Rattle.node_steps.specs.State.{NodeState, Stored, changes_of}
 use Rattle.node_steps.specs.Steps.{risen_time, end_of_time}
 use Rattle.node_core.specs.Views.{NodeView, view_of, fresh_view}
 use Rattle.node_core.specs.Sites.{Site, StepsFrom, fresh_site}
-use Rattle.cluster_runs.proofs.Lists.{some_one, get_set}
+use Rattle.cs_base.proofs.Slots.{some_one, get_set}
 use Rattle.cluster_model.specs.State.{ClusterState}
 use Rattle.cluster_model.specs.Takes.{Comes, ComesAt, StepsAt, event_of, not_stepped}
 use Rattle.cluster_model.specs.Sites.{AreSites, Turns, IsSmall, asks, entered, site_state, states_of}

@@ -4,7 +4,7 @@ use Rattle.std.specs.Prelude.{if◌then◌else◌, slice_get, replicate}
 use Rattle.std.proofs.lemmas.Bool.{cases_lt}
 use Rattle.std.proofs.lemmas.List.{length-append, length-replicate, take_all}
 use Rattle.peer_messages.specs.declared.message.Message.{Message}
-use Rattle.cluster_runs.proofs.Lists.{some_one}
+use Rattle.cs_base.proofs.Slots.{some_one}
 use Rattle.cluster_model.specs.State.{oldest_from}
 use Rattle.cluster_model.specs.Mails.{ArePassed, AreFiled, HoldsMail}
 use Rattle.cluster_model.specs.declared.routes.Routes.{Routes}

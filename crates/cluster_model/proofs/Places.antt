@@ -6,7 +6,7 @@ use Rattle.std.proofs.lemmas.List.{take-append-le, length-append, length-set, le
 use Rattle.std.proofs.lemmas.Bool.{cases_Bool, and_parts, and_from, eqb-true, eq-eqb}
 use Rattle.std.proofs.lemmas.Option.{get_or_from_slice_get, slice_get_within}
 use Rattle.peer_messages.specs.declared.message.Message.{Message}
-use Rattle.cluster_runs.proofs.Lists.{set_get, set_other}
+use Rattle.cs_base.proofs.Slots.{set_get, set_other}
 use Rattle.cluster_model.specs.State.{places_from}
 use Rattle.cluster_model.specs.Mails.{ArePlaces, AreFiled}
 use Rattle.cluster_model.specs.declared.routes.Routes.{Routes}

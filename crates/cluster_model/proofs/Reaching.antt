@@ -13,8 +13,8 @@ use Rattle.node_steps.specs.Steps.{risen_time, end_of_time}
 use Rattle.node_core.specs.Views.{NodeView, view_of, fresh_view}
 use Rattle.cluster_runs.specs.Run.{WasSent}
 use Rattle.cluster_runs.specs.Run.Run.{begun, more, turned}
-use Rattle.cluster_runs.proofs.Lists.{some_one}
-use Rattle.change_laws.proofs.Members.{contains_here, contains_there}
+use Rattle.cs_base.proofs.Slots.{some_one}
+use Rattle.cs_base.proofs.Members.{contains_here, contains_there}
 use Rattle.read_consistency.specs.ReadRight.{ReadRight}
 use Rattle.read_consistency.proofs.Traces.{run_right}
 use Rattle.cluster_model.specs.State.{ClusterState, IsReached, fresh_cluster, world_of, place_of, oldest_from, passed_over}

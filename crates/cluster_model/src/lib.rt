@@ -7,8 +7,6 @@ mod event;
 mod mail;
 mod parts;
 mod routes;
-#[cfg(test)]
-mod tests;
 
 pub use cluster::Cluster;
 pub use event::ClusterEvent;

@@ -17,10 +17,6 @@ use Rattle.cluster_program.specs.declared.streams.ReadError.TheVariants as read
 use Rattle.cluster_program.specs.Runs.{IsRunInPrint}
 use Rattle.cluster_program.specs.Streams.{WritesAll, WritesFront}
 
--- the words of the one command
-abbrev pub command : List (List ℕ)
-command = codes "script" ∷ []
-
 -- the bytes are a script, and the text is the printed chronicle of a run of it
 abbrev pub IsRunOf : List ℕ → List ℕ → Type 0
 IsRunOf bytes text = (script : Script) × IsRead bytes (Ok script) × IsRunInPrint script text
@@ -91,3 +87,8 @@ RefusesScript refusal.NoMemory Told = ⊥
 -- the line is written last: whole, or a front of it where the sink fails
 abbrev pub LeavesLine : Option (List ℕ) → Option (List ℕ) → ℕ → ℕ → List ℕ → Type 0
 LeavesLine held held' faults faults' line = WritesAll held held' line ⊎ (WritesFront held held' line × HasRisen faults faults')
+
+-- the text is written whole, or a front of it where the sink fails, and the status says which
+abbrev pub IsTold : Option (List ℕ) → Option (List ℕ) → ℕ → ℕ → List ℕ → Status → Type 0
+IsTold held held' faults faults' text s =
+    ((s ≡ status.Ok) × WritesAll held held' text) ⊎ ((s ≡ status.WriteFault) × WritesFront held held' text × HasRisen faults faults')

@@ -1,5 +1,6 @@
 -- What the lines of a script ask of a cluster.
 use Rattle.std.specs.Prelude.{◌≡◌, ◌⊎◌, ℕ, ℤ, Option, Some, None, List, [], ◌∷◌, map, codes}
+use Rattle.cs_base.specs.declared.level.Level.{Level}
 use Rattle.cql_values.specs.Literals.{literal_text}
 use Rattle.cql_values.specs.declared.value.CqlValue.TheVariants as values
 use Rattle.cql_values.specs.declared.value.LiteralKind.TheVariants as kinds
@@ -95,15 +96,15 @@ AsksFor book keyspace s p =
     ((b : Plan) × IsPlan b (meaning_of book keyspace no_values None s) × (p ≡ asked_of b))
     ⊎ ((f : Fault) × IsRefusal f (meaning_of book keyspace no_values None s) × (p ≡ plan.Invalid f))
 
+-- the node is asked for that at a level
+abbrev pub AsksAt : Book → Option (List ℕ) → ℕ → Level → Statement → ClusterEvent → Type 0
+AsksAt book keyspace node level s e = (p : NodePlan) × AsksFor book keyspace s p × (e ≡ cluster.Ask node (record { plan = p; level = level }))
+
 -- what a line does to the cluster
 abbrev pub IsEventOf : Book → Option (List ℕ) → ScriptEvent → ClusterEvent → Type 0
-IsEventOf book keyspace (line.Put put) e =
-    (p : NodePlan) × AsksFor book keyspace (put_statement put) p × (e ≡ cluster.Ask put.node (record { plan = p; level = put.level }))
-IsEventOf book keyspace (line.Get get) e =
-    (p : NodePlan) × AsksFor book keyspace (get_statement get) p × (e ≡ cluster.Ask get.node (record { plan = p; level = get.level }))
-IsEventOf book keyspace (line.Cql request) e =
-    (s : Statement) × IsOneStatement request.text s
-    × ((p : NodePlan) × AsksFor book keyspace s p × (e ≡ cluster.Ask request.node (record { plan = p; level = request.level })))
+IsEventOf book keyspace (line.Put put) e = AsksAt book keyspace put.node put.level (put_statement put) e
+IsEventOf book keyspace (line.Get get) e = AsksAt book keyspace get.node get.level (get_statement get) e
+IsEventOf book keyspace (line.Cql request) e = (s : Statement) × IsOneStatement request.text s × AsksAt book keyspace request.node request.level s e
 IsEventOf book keyspace (line.Deliver place) e = e ≡ cluster.Deliver place.from place.upto place.number
 IsEventOf book keyspace (line.Drop place) e = e ≡ cluster.Lose place.from place.upto place.number
 IsEventOf book keyspace (line.Settle count) e = e ≡ cluster.Settle count

@@ -6,7 +6,5 @@ mod requests;
 mod run;
 mod statements;
 mod streams;
-#[cfg(test)]
-mod tests;
 
 pub use program::{Status, run_cluster};

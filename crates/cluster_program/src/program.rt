@@ -1,18 +1,20 @@
 //! The top call, and how it ends.
 
-ghost use Rattle.std.specs.Prelude.{All, ◌≡◌, ◌≢◌, ◌⊎◌, ◌↔◌, ◌≤◌, ◌++◌, ◌∷◌, [], ℕ, List, Ok, map, codes, Some, Err, IsTrue, IfOk, IfErr, OnOk, IfSome, IsErrOf};
+ghost use Rattle.std.specs.Prelude.{All, ◌≡◌, ◌≢◌, None, ◌⊎◌, ◌↔◌, ◌≤◌, ◌++◌, ◌∷◌, [], ℕ, List, Ok, map, codes, Some, Err, IsTrue, IfOk, IfErr, OnOk, IfSome, IsErrOf};
 ghost use Rattle.std.specs.Fmt.{decimal};
 ghost use Rattle.std.specs.String.{string_bytes};
 ghost use Rattle.cs_base.specs.Faults.{HasRisen};
 ghost use Rattle.fault_script.specs.Script.{IsRead, IsSaid};
 ghost use Rattle.fault_script.specs.declared.script.Script.{Script as script_value};
 ghost use Rattle.fault_script.specs.declared.script.ScriptError.{ScriptError};
-ghost use Rattle.cluster_program.specs.Endings.{command, IsRunOf, LeavesLine, RefusesScript, IsRefusalStatus, IsRefusedWith, IsServedWith, IsRefused, of_read, of_parse, error_line as error_line_of};
+ghost use Rattle.cluster_program.specs.Commands.{command_of_name, command_named, usage_line, help_text, version_text};
+ghost use Rattle.cluster_program.specs.Endings.{IsTold, IsRunOf, LeavesLine, RefusesScript, IsRefusalStatus, IsRefusedWith, IsServedWith, IsRefused, of_read, of_parse, error_line as error_line_of};
 ghost use Rattle.cluster_program.specs.Streams.{WritesAll, WritesFront};
 ghost use Rattle.cluster_program.specs.declared.program.Refusal.TheVariants.{NoMemory as RefusalMemory};
 
 use crate::run::run;
 use crate::streams::{ReadError, read_all, write_all};
+use chronicle_print::push_number;
 use cs_base::Failed;
 use cs_io::{Sink, Source};
 use fault_script::{ParseError, Script, ScriptError, one_reading, parse, statements_are_read};
@@ -56,6 +58,14 @@ impl Status {
             Status::Damaged => 11,
         }
     }
+}
+
+/// What the words ask of the program.
+#[derive(Clone, Copy, Debug, PartialEq, Eq)]
+pub enum Command {
+    Script,
+    Help,
+    Version,
 }
 
 /// Why there is no run in print.
@@ -120,13 +130,29 @@ fn print_run<S: Source>(alloc: Global, source: &mut S) -> Result<Vec<u8>, Refusa
     Ok(run(alloc, &script)?)
 }
 
-fn is_command(words: &[String]) -> bool
-    ensures { IsTrue result ↔ map string_bytes words.now ≡ command }
+/// The command that the words name.
+fn command_of(words: &[String]) -> Option<Command>
+    ensures { result ≡ command_named (map string_bytes words.now) }
 {
     match words {
-        [word] => word.as_str() == "script",
-        _ => false,
+        [word] => command_of_word(word.as_str()),
+        _ => None,
     }
+}
+
+fn command_of_word(word: &str) -> Option<Command>
+    ensures { result ≡ command_of_name word.now }
+{
+    if word == "script" {
+        return Some(Command::Script);
+    }
+    if word == "--help" {
+        return Some(Command::Help);
+    }
+    if word == "--version" {
+        return Some(Command::Version);
+    }
+    None
 }
 
 /// Writes a last line. Where that fails, the status already says what ended the run.
@@ -134,13 +160,6 @@ fn leave_line<T: Sink>(sink: &mut T, line: &[u8])
     ensures { LeavesLine (T.contents sink.old) (T.contents sink.new) (T.faults sink.old) (T.faults sink.new) line.now }
 {
     let _ = write_all(sink, line);
-}
-
-fn push_number(alloc: Global, out: &mut Vec<u8>, number: u64) -> Result<(), AllocError>
-    ensures { OnOk result (out.new.items ≡ out.old.items ++ decimal number) }
-{
-    let digits = number.to_string(alloc)?;
-    out.extend_from_slice(digits.as_bytes())
 }
 
 /// The line of a refusal that has a number.
@@ -216,37 +235,72 @@ fn leave_refusal<T: Sink>(alloc: Global, sink: &mut T, refusal: Refusal) -> Stat
     }
 }
 
-/// Runs the command that the words name. `script` reads a fault script to its end, runs it, and writes the printed
-/// chronicle.
-pub fn run_cluster<S: Source, T: Sink>(
-    alloc: Global,
-    words: &[String],
-    source: &mut S,
-    sink: &mut T,
-) -> Status
-    ensures usage { result ≡ Status.Usage ↔ map string_bytes words.now ≢ command }
-    ensures usage_line { result ≡ Status.Usage → LeavesLine (T.contents sink.old) (T.contents sink.new) (T.faults sink.old) (T.faults sink.new) (codes "usage: script\n") }
+/// Writes what a command tells, and nothing else.
+fn tell<T: Sink>(sink: &mut T, text: &[u8]) -> Status
+    ensures { IsTold (T.contents sink.old) (T.contents sink.new) (T.faults sink.old) (T.faults sink.new) text.now result }
+{
+    match write_all(sink, text) {
+        Ok(()) => Status::Ok,
+        Err(Failed) => Status::WriteFault,
+    }
+}
+
+/// Reads a fault script to its end, runs it, and writes the printed chronicle.
+fn run_script<S: Source, T: Sink>(alloc: Global, source: &mut S, sink: &mut T) -> Status
     ensures ok { result ≡ Status.Ok → IfSome (S.remaining source.old) (λ left. (text : List ℕ) × IsRunOf left text × WritesAll (T.contents sink.old) (T.contents sink.new) text) }
     ensures end { result ≡ Status.Ok → IfSome (S.remaining source.old) (λ _. S.remaining source.new ≡ Some []) }
     ensures bad_script { result ≡ Status.BadScript → IfSome (S.remaining source.old) (λ left. (error : ScriptError) × IsRead left (Err error) × LeavesLine (T.contents sink.old) (T.contents sink.new) (T.faults sink.old) (T.faults sink.new) (error_line_of error)) }
     ensures read_fault { result ≡ Status.ReadFault → HasRisen (S.faults source.old) (S.faults source.new) × LeavesLine (T.contents sink.old) (T.contents sink.new) (T.faults sink.old) (T.faults sink.new) (codes "read fault\n") }
     ensures write_fault { result ≡ Status.WriteFault → HasRisen (T.faults sink.old) (T.faults sink.new) }
     ensures written { result ≡ Status.WriteFault → IfSome (S.remaining source.old) (λ left. (text : List ℕ) × IsRunOf left text × WritesFront (T.contents sink.old) (T.contents sink.new) text) }
-    ensures statuses { (result ≡ Status.Ok) ⊎ (result ≡ Status.Usage) ⊎ (result ≡ Status.WriteFault) ⊎ IsRefusalStatus result }
-    ensures refused { IfSome (S.remaining source.old) (λ left. (error : ScriptError) → IsRead left (Err error) → map string_bytes words.now ≡ command → IsRefusedWith result) }
-    ensures served { IfSome (S.remaining source.old) (λ left. (script : script_value) → IsRead left (Ok script) → map string_bytes words.now ≡ command → IsServedWith result) }
+    ensures statuses { (result ≡ Status.Ok) ⊎ (result ≡ Status.WriteFault) ⊎ IsRefusalStatus result }
+    ensures refused { IfSome (S.remaining source.old) (λ left. (error : ScriptError) → IsRead left (Err error) → IsRefusedWith result) }
+    ensures served { IfSome (S.remaining source.old) (λ left. (script : script_value) → IsRead left (Ok script) → IsServedWith result) }
     ensures no_memory { result ≡ Status.NoMemory → LeavesLine (T.contents sink.old) (T.contents sink.new) (T.faults sink.old) (T.faults sink.new) (codes "no memory\n") }
 {
     one_reading();
-    if !is_command(words) {
-        leave_line(sink, b"usage: script\n");
-        return Status::Usage;
-    }
     match print_run(alloc, source) {
         Ok(text) => match write_all(sink, &text) {
             Ok(()) => Status::Ok,
             Err(Failed) => Status::WriteFault,
         },
         Err(refusal) => leave_refusal(alloc, sink, refusal),
+    }
+}
+
+/// Runs the command that the words name. `script` reads a fault script to its end, runs it, and writes the printed
+/// chronicle; `--help` and `--version` tell of the program.
+pub fn run_cluster<S: Source, T: Sink>(
+    alloc: Global,
+    words: &[String],
+    source: &mut S,
+    sink: &mut T,
+) -> Status
+    ensures usage { result ≡ Status.Usage ↔ command_named (map string_bytes words.now) ≡ None }
+    ensures usage_line { result ≡ Status.Usage → LeavesLine (T.contents sink.old) (T.contents sink.new) (T.faults sink.old) (T.faults sink.new) usage_line }
+    ensures help { command_named (map string_bytes words.now) ≡ Some Command.Help → IsTold (T.contents sink.old) (T.contents sink.new) (T.faults sink.old) (T.faults sink.new) help_text result }
+    ensures version { command_named (map string_bytes words.now) ≡ Some Command.Version → IsTold (T.contents sink.old) (T.contents sink.new) (T.faults sink.old) (T.faults sink.new) version_text result }
+    ensures ok { command_named (map string_bytes words.now) ≡ Some Command.Script → result ≡ Status.Ok → IfSome (S.remaining source.old) (λ left. (text : List ℕ) × IsRunOf left text × WritesAll (T.contents sink.old) (T.contents sink.new) text) }
+    ensures end { command_named (map string_bytes words.now) ≡ Some Command.Script → result ≡ Status.Ok → IfSome (S.remaining source.old) (λ _. S.remaining source.new ≡ Some []) }
+    ensures bad_script { result ≡ Status.BadScript → IfSome (S.remaining source.old) (λ left. (error : ScriptError) × IsRead left (Err error) × LeavesLine (T.contents sink.old) (T.contents sink.new) (T.faults sink.old) (T.faults sink.new) (error_line_of error)) }
+    ensures read_fault { result ≡ Status.ReadFault → HasRisen (S.faults source.old) (S.faults source.new) × LeavesLine (T.contents sink.old) (T.contents sink.new) (T.faults sink.old) (T.faults sink.new) (codes "read fault\n") }
+    ensures write_fault { result ≡ Status.WriteFault → HasRisen (T.faults sink.old) (T.faults sink.new) }
+    ensures written { command_named (map string_bytes words.now) ≡ Some Command.Script → result ≡ Status.WriteFault → IfSome (S.remaining source.old) (λ left. (text : List ℕ) × IsRunOf left text × WritesFront (T.contents sink.old) (T.contents sink.new) text) }
+    ensures statuses { (result ≡ Status.Ok) ⊎ (result ≡ Status.Usage) ⊎ (result ≡ Status.WriteFault) ⊎ IsRefusalStatus result }
+    ensures refused { IfSome (S.remaining source.old) (λ left. (error : ScriptError) → IsRead left (Err error) → command_named (map string_bytes words.now) ≡ Some Command.Script → IsRefusedWith result) }
+    ensures served { IfSome (S.remaining source.old) (λ left. (script : script_value) → IsRead left (Ok script) → command_named (map string_bytes words.now) ≡ Some Command.Script → IsServedWith result) }
+    ensures no_memory { result ≡ Status.NoMemory → LeavesLine (T.contents sink.old) (T.contents sink.new) (T.faults sink.old) (T.faults sink.new) (codes "no memory\n") }
+{
+    match command_of(words) {
+        Some(Command::Script) => run_script(alloc, source, sink),
+        Some(Command::Help) => tell(
+            sink,
+            b"usage: script\nscript      reads a fault script from standard input, runs it, and writes its answers\n--help      writes this\n--version   writes the version, and the toolchain that it is proved with\n",
+        ),
+        Some(Command::Version) => tell(sink, b"biropuve 0.1.0, proved with rattle-kit-13f\n"),
+        None => {
+            leave_line(sink, b"usage: script\n");
+            Status::Usage
+        }
     }
 }

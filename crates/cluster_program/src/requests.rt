@@ -3,13 +3,13 @@
 ghost use Rattle.std.specs.Prelude.{◌≡◌, ℕ, List, map, IfOk, option_copied};
 ghost use Rattle.cql_statement.specs.declared.statement.Statement.{Statement as statement_value};
 ghost use Rattle.fault_script.specs.Script.{IsOneStatement, IsSaid};
-ghost use Rattle.cluster_program.specs.Requests.{table_setting, setting_of as setting_of_script, put_statement, get_statement, asked_of, AsksFor, IsEventOf};
+ghost use Rattle.cluster_program.specs.Requests.{table_setting, setting_of as setting_of_script, put_statement, get_statement, asked_of, AsksFor, AsksAt, IsEventOf};
 
 use crate::statements::{statement_of_get, statement_of_put};
 use cluster_model::ClusterEvent;
 use cql_parser::{ParseError, parse};
 use cql_statement::Statement;
-use cs_base::Items;
+use cs_base::{Items, Level, NodeId};
 use fault_script::{CqlRequest, GetRequest, PutRequest, Script, ScriptEvent};
 use peer_messages::{Ask, Plan, Setting, TableSetting, TableSettings};
 use schema_book::{Schema, Table};
@@ -83,32 +83,19 @@ fn statement_of(alloc: Global, text: &str) -> Result<Statement, AllocError>
     }
 }
 
-fn put_event(
+/// What a node is asked for a statement, at a level.
+fn ask_for(
     alloc: Global,
     schema: &Schema,
     keyspace: Option<&str>,
-    put: &PutRequest,
+    node: NodeId,
+    level: Level,
+    statement: Statement,
 ) -> Result<ClusterEvent, AllocError>
-    ensures { IfOk result (IsEventOf schema.now (option_copied keyspace.entry) (ScriptEvent.Put put.now)) }
+    ensures { IfOk result (AsksAt schema.now (option_copied keyspace.entry) node level statement) }
 {
-    let statement = statement_of_put(alloc, put)?;
     let plan = plan_of(alloc, schema, keyspace, &statement)?;
-    let level = put.level;
-    Ok(ClusterEvent::Ask(put.node, Ask { plan, level }))
-}
-
-fn get_event(
-    alloc: Global,
-    schema: &Schema,
-    keyspace: Option<&str>,
-    get: &GetRequest,
-) -> Result<ClusterEvent, AllocError>
-    ensures { IfOk result (IsEventOf schema.now (option_copied keyspace.entry) (ScriptEvent.Get get.now)) }
-{
-    let statement = statement_of_get(alloc, get)?;
-    let plan = plan_of(alloc, schema, keyspace, &statement)?;
-    let level = get.level;
-    Ok(ClusterEvent::Ask(get.node, Ask { plan, level }))
+    Ok(ClusterEvent::Ask(node, Ask { plan, level }))
 }
 
 fn cql_event(
@@ -121,9 +108,38 @@ fn cql_event(
     ensures { IfOk result (IsEventOf schema.now (option_copied keyspace.entry) (ScriptEvent.Cql request.now)) }
 {
     let statement = statement_of(alloc, request.text.as_str())?;
-    let plan = plan_of(alloc, schema, keyspace, &statement)?;
-    let level = request.level;
-    Ok(ClusterEvent::Ask(request.node, Ask { plan, level }))
+    ask_for(
+        alloc,
+        schema,
+        keyspace,
+        request.node,
+        request.level,
+        statement,
+    )
+}
+
+fn put_event(
+    alloc: Global,
+    schema: &Schema,
+    keyspace: Option<&str>,
+    put: &PutRequest,
+) -> Result<ClusterEvent, AllocError>
+    ensures { IfOk result (IsEventOf schema.now (option_copied keyspace.entry) (ScriptEvent.Put put.now)) }
+{
+    let statement = statement_of_put(alloc, put)?;
+    ask_for(alloc, schema, keyspace, put.node, put.level, statement)
+}
+
+fn get_event(
+    alloc: Global,
+    schema: &Schema,
+    keyspace: Option<&str>,
+    get: &GetRequest,
+) -> Result<ClusterEvent, AllocError>
+    ensures { IfOk result (IsEventOf schema.now (option_copied keyspace.entry) (ScriptEvent.Get get.now)) }
+{
+    let statement = statement_of_get(alloc, get)?;
+    ask_for(alloc, schema, keyspace, get.node, get.level, statement)
 }
 
 /// What a line does to the cluster, in a schema and with a keyspace in use.

@@ -15,9 +15,9 @@ use Rattle.node_steps.specs.Acts.{Act, Rises, Hears, Asks, Marks, Incoming, Deed
 use Rattle.node_steps.specs.Acts.Chain.{begun, own, matter}
 use Rattle.node_steps.specs.Steps.{entries_of}
 use Rattle.cluster_runs.specs.Trace.{Scene, WasMade, MayTake, Trace, moved}
-use Rattle.cluster_runs.proofs.Lists.{set_get, set_same, set_set, reverse_push}
+use Rattle.cs_base.proofs.Slots.{set_get, set_same, set_set}
+use Rattle.cs_base.proofs.Members.{reverse_push, contains_nil, contains_cases, contains_here, contains_there}
 use Rattle.cluster_runs.proofs.Times.{passed}
-use Rattle.change_laws.proofs.Members.{contains_nil, contains_cases, contains_here, contains_there}
 
 -- the scene after these moves of node k, which is now at s'
 abbrev pub after : Scene → ℕ → List Deed → NodeState → Scene

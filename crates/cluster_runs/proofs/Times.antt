@@ -15,8 +15,8 @@ use Rattle.node_steps.specs.Replicas.{Asker}
 use Rattle.node_steps.specs.Requests.{refusal_of, Begins, BeginsOrRefuses}
 use Rattle.node_steps.specs.Acts.{Act, Rises, Hears, Asks, Marks, Deed, Does, HearsBody}
 use Rattle.cluster_runs.specs.Trace.{Scene, Trace, begun, moved, free}
-use Rattle.cluster_runs.proofs.Lists.{get_set}
-use Rattle.change_laws.proofs.Members.{contains_nil, contains_cases}
+use Rattle.cs_base.proofs.Slots.{get_set}
+use Rattle.cs_base.proofs.Members.{contains_nil, contains_cases}
 
 time_of : NodeState → ℕ
 time_of s = s.time

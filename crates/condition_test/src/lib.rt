@@ -4,8 +4,6 @@
 mod condition;
 mod laws;
 mod order;
-#[cfg(test)]
-mod tests;
 
 pub use condition::holds;
 pub use laws::bytes_compare_as_values;

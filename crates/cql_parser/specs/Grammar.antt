@@ -149,12 +149,12 @@ test_operator =
 abbrev pub test_of : List ℕ × (TestOperator × Term) → Test
 test_of v = record { column = v.0; operator = v.1.0; term = v.1.1 }
 
-unfoldable pub test : Form Test
-test = Made test_of (name & test_operator & term)
+unfoldable pub column_test : Form Test
+column_test = Made test_of (name & test_operator & term)
 
--- {AND test}
+-- {AND column_test}
 unfoldable pub more_tests : Form (List Test)
-more_tests = more (word (codes "AND")) test
+more_tests = more (word (codes "AND")) column_test
 
 -- what stands behind IF EXISTS: where an operator does, EXISTS is a column
 abbrev pub exists_of : List ℕ × Option ((TestOperator × Term) × List Test) → Condition
@@ -168,7 +168,7 @@ condition_body =
     Made exists_of (word_as_name (codes "EXISTS") & option ((test_operator & term) & more_tests))
     ⊕ Made tests_of ((other_name (codes "EXISTS") & test_operator & term) & more_tests)
 
--- IF EXISTS | IF test {AND test}
+-- IF EXISTS | IF column_test {AND column_test}
 abbrev pub condition : Form Condition
 condition = word (codes "IF") ▹ condition_body
 

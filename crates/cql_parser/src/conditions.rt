@@ -51,9 +51,9 @@ fn test_operator(cursor: &mut Cursor<'_>) -> Result<TestOperator, Halt>
 }
 
 impl Part for Test {
-    ghost reads = { read grammar.test };
+    ghost reads = { read grammar.column_test };
 
-    #[tactic(auto, unfolding(crate::specs::Grammar::test))]
+    #[tactic(auto, unfolding(crate::specs::Grammar::column_test))]
     fn read(cursor: &mut Cursor<'_>, alloc: Global) -> Result<Test, Halt> {
         let column = name(cursor, alloc)?;
         let operator = test_operator(cursor)?;

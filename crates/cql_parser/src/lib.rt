@@ -19,6 +19,3 @@ mod terms;
 pub use error::ParseError;
 pub use laws::{no_refusal, one_reading, one_refusal};
 pub use parsing::{MOST_TOKENS, parse, tokens};
-
-#[cfg(test)]
-mod tests;

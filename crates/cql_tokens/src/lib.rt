@@ -13,6 +13,3 @@ mod words;
 pub use laws::{each_text_has_a_scan, one_scan, printed_tokens_are_the_same, tokens_are_words};
 pub use scanning::{scan, text_of};
 pub use token::{Scanned, Stop, Token, TokenKind, TokenList};
-
-#[cfg(test)]
-mod tests;

@@ -22,6 +22,3 @@ pub use print::print_literal;
 pub use protocol::{decode, encode};
 pub use reading::read_order;
 pub use value::{CqlType, CqlValue, Literal, LiteralKind};
-
-#[cfg(test)]
-mod tests;

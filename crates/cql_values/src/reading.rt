@@ -143,7 +143,8 @@ fn text(alloc: Global, ty: CqlType, desc: bool, bytes: &[u8]) -> Result<(Text, u
     ensures { Reads (IsEscapedWord ty) (ascending_bytes desc bytes.now) result }
 {
     let (content, len) = content(alloc, ty, desc, bytes)?;
-    match String::from_utf8(content.into_vec()) {
+    let bytes = content.into_vec(alloc)?;
+    match String::from_utf8(bytes) {
         Ok(text) => Ok((Text::from_string(text), len)),
         Err(_) => unreachable!(),
     }

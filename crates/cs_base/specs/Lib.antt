@@ -1,3 +1,4 @@
+pub mod ByteStrings
 pub mod Faults
 pub mod LeafBits
 pub mod Leaves

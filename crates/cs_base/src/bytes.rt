@@ -1,72 +1,148 @@
 //! A string of bytes.
 
-ghost use Rattle.std.specs.Prelude.{◌≡◌, ◌==◌, List, [], IfOk, Some, length, refl};
+ghost use Rattle.std.specs.Prelude.{◌≡◌, ◌==◌, ◌≤◌, ◌↔◌, List, [], IfOk, IfSome, IsSome, Some, length, refl};
 ghost use Rattle.std.specs.Ordering.{nat_cmp};
 ghost use Rattle.std.specs.Cmp;
 ghost use Rattle.std.specs.Cmp.Lexicographic.{pointwise, slice_cmp, nat_list_eq_equiv, nat_list_cmp_total, texts_ties, texts_po};
+ghost use Rattle.cs_base.specs.ByteStrings.{bytes_kept};
 
+use arrayvec::ArrayVec;
 use std::alloc::{AllocError, Global};
 use std::cmp::Ordering;
+use std::fmt::{self, Debug, Formatter, Write};
 use std::marker::Model;
+use std::sync::Arc;
+
+/// The longest string that is kept in the value itself. Most keys, names of rows and values are no longer.
+pub(crate) const INLINE: usize = 24;
+
+/// Where the bytes lie: in the value itself, in memory that copies share, or in memory that was handed in.
+#[derive(Drop)]
+enum Kept {
+    Inline(ArrayVec<u8, INLINE>),
+    Shared(Arc<Vec<u8>>),
+    Owned(Vec<u8>),
+}
+
+impl Kept {
+    /// The bytes in the value itself, if they are few enough.
+    fn inline(bytes: &[u8]) -> Option<Kept>
+        ensures { IfSome result (λ kept. bytes_kept kept ≡ bytes.now) }
+    {
+        let mut short = ArrayVec::new();
+        match short.try_extend_from_slice(bytes) {
+            Ok(()) => Some(Kept::Inline(short)),
+            Err(_) => None,
+        }
+    }
+
+    /// The bytes in memory that copies can share, or else where they were.
+    fn shared(bytes: Vec<u8>, alloc: Global) -> Kept
+        ensures { bytes_kept result ≡ bytes.items }
+    {
+        match Arc::new(alloc, bytes) {
+            Ok(bytes) => Kept::Shared(bytes),
+            Err(failed) => Kept::Owned(failed.value),
+        }
+    }
+
+    fn as_slice(&self) -> &[u8]
+        ensures { result.now ≡ bytes_kept self.now }
+    {
+        match self {
+            Kept::Inline(short) => short.as_slice(),
+            Kept::Shared(bytes) => (**bytes).as_slice(),
+            Kept::Owned(bytes) => bytes.as_slice(),
+        }
+    }
+}
 
 /// A string of bytes, which compares as `memcmp` does: byte by byte, a beginning before the whole.
-#[derive(Debug, Drop)]
+///
+/// A short string is kept in the value itself, and the copies of a longer one share its memory.
+#[derive(Drop)]
 pub struct Bytes {
-    bytes: Vec<u8>,
+    kept: Kept,
 }
 
 impl Model for Bytes {
     ghost use Rattle.std.specs.Prelude.{ℕ, List};
+    ghost use Rattle.cs_base.specs.ByteStrings.{bytes_kept};
 
     ghost Value = { List ℕ };
 
-    ghost view = { λ a. a.bytes.items };
+    ghost view = { λ a. bytes_kept a.kept };
 }
 
 impl Bytes {
     /// No bytes, without an allocation.
-    pub fn new(alloc: Global) -> Bytes
+    pub fn new(_alloc: Global) -> Bytes
         ensures { result ≡ [] }
     {
         Bytes {
-            bytes: Vec::new(alloc),
+            kept: Kept::Inline(ArrayVec::new()),
         }
     }
 
-    /// Takes the bytes over, without an allocation.
+    /// Takes the bytes over.
     pub fn from_vec(bytes: Vec<u8>) -> Bytes
         ensures { result ≡ bytes.items }
     {
-        Bytes { bytes }
+        match Kept::inline(bytes.as_slice()) {
+            Some(kept) => Bytes { kept },
+            None => {
+                let alloc = *bytes.allocator();
+                Bytes {
+                    kept: Kept::shared(bytes, alloc),
+                }
+            }
+        }
     }
 
     /// A copy of the bytes.
     pub fn from_slice(alloc: Global, bytes: &[u8]) -> Result<Bytes, AllocError>
         ensures { IfOk result (λ copy. copy ≡ bytes.now) }
     {
-        Ok(Bytes {
-            bytes: Vec::from_slice(alloc, bytes)?,
-        })
+        match Kept::inline(bytes) {
+            Some(kept) => Ok(Bytes { kept }),
+            None => Ok(Bytes {
+                kept: Kept::shared(Vec::from_slice(alloc, bytes)?, alloc),
+            }),
+        }
     }
 
     pub fn as_slice(&self) -> &[u8]
         ensures { result.now ≡ self.now }
     {
-        self.bytes.as_slice()
+        self.kept.as_slice()
     }
 
-    /// Gives the bytes back, without an allocation.
-    pub fn into_vec(self) -> Vec<u8>
-        ensures { result.items ≡ self }
+    /// The bytes in memory of their own.
+    pub fn into_vec(self, alloc: Global) -> Result<Vec<u8>, AllocError>
+        ensures { IfOk result (λ bytes. bytes.items ≡ self) }
     {
-        self.bytes
+        match self.kept {
+            Kept::Owned(bytes) => Ok(bytes),
+            kept => Vec::from_slice(alloc, kept.as_slice()),
+        }
     }
 
-    /// An equal string, in memory of its own.
+    /// An equal string.
     pub fn copy(&self, alloc: Global) -> Result<Bytes, AllocError>
         ensures { IfOk result (λ copy. copy ≡ self.now) }
     {
-        Bytes::from_slice(alloc, self.as_slice())
+        match &self.kept {
+            Kept::Shared(bytes) => Ok(Bytes {
+                kept: Kept::Shared(Arc::try_clone(bytes)?),
+            }),
+            kept => Bytes::from_slice(alloc, kept.as_slice()),
+        }
+    }
+}
+
+impl Debug for Bytes {
+    fn fmt<W: Write>(&self, f: &mut Formatter<W>) -> fmt::Result {
+        f.debug_list().entries(self.as_slice()).finish()
     }
 }
 
@@ -113,13 +189,28 @@ mod tests {
     use super::*;
     use std::test::Fail;
 
+    /// Strings that are kept inline, the longest of them, and one that is longer.
+    const STRINGS: [&[u8]; 4] = [
+        b"",
+        b"k\xff\x00",
+        b"012345678901234567890123",
+        b"0123456789012345678901234",
+    ];
+
     #[test]
-    fn copies_bytes(rt: HostRuntime) -> Result<(), Fail> {
-        let bytes = Bytes::from_slice(rt.alloc(), b"k\xff\x00")?;
-        let copy = bytes.copy(rt.alloc())?;
-        assert_eq!(rt; copy, bytes);
-        assert_eq!(rt; copy.as_slice(), b"k\xff\x00".as_slice());
-        assert!(rt; Bytes::from_slice(rt.alloc(), b"k")? < bytes);
+    fn bytes_are_kept_and_copied(rt: HostRuntime) -> Result<(), Fail> {
+        for string in STRINGS {
+            let bytes = Bytes::from_slice(rt.alloc(), string)?;
+            assert_eq!(rt; bytes.as_slice(), string);
+            let copy = bytes.copy(rt.alloc())?;
+            assert_eq!(rt; copy, bytes);
+            assert!(rt; Bytes::from_slice(rt.alloc(), b"k")? != bytes);
+            assert_eq!(rt; copy.into_vec(rt.alloc())?.as_slice(), string);
+            let taken = Bytes::from_vec(Vec::from_slice(rt.alloc(), string)?);
+            assert_eq!(rt; taken.copy(rt.alloc())?, bytes);
+        }
+        let beginning = Bytes::from_slice(rt.alloc(), b"k")?;
+        assert!(rt; beginning < Bytes::from_slice(rt.alloc(), b"k\xff\x00")?);
         Ok(())
     }
 }

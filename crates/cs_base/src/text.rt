@@ -1,59 +1,123 @@
 //! A text.
 
-ghost use Rattle.std.specs.Prelude.{◌≡◌, [], IfOk, string_bytes};
+ghost use Rattle.std.specs.Prelude.{◌≡◌, [], IfOk, IfSome, string_bytes};
+ghost use Rattle.cs_base.specs.ByteStrings.{text_kept};
 
+use crate::bytes::INLINE;
+use arrayvec::ArrayString;
 use std::alloc::{AllocError, Global};
+use std::fmt::{self, Debug, Formatter, Write};
 use std::marker::Model;
+use std::sync::Arc;
+
+/// Where the text lies: in the value itself, in memory that copies share, or in memory that was handed in.
+#[derive(Drop)]
+enum KeptText {
+    Inline(ArrayString<INLINE>),
+    Shared(Arc<String>),
+    Owned(String),
+}
+
+impl KeptText {
+    /// The text in the value itself, if it is short enough.
+    fn inline(text: &str) -> Option<KeptText>
+        ensures { IfSome result (λ kept. text_kept kept ≡ text.now) }
+    {
+        let mut short = ArrayString::new();
+        match short.try_push_str(text) {
+            Ok(()) => Some(KeptText::Inline(short)),
+            Err(_) => None,
+        }
+    }
+
+    /// The text in memory that copies can share, or else where it was.
+    fn shared(text: String, alloc: Global) -> KeptText
+        ensures { text_kept result ≡ string_bytes text }
+    {
+        match Arc::new(alloc, text) {
+            Ok(text) => KeptText::Shared(text),
+            Err(failed) => KeptText::Owned(failed.value),
+        }
+    }
+
+    fn as_str(&self) -> &str
+        ensures { result.now ≡ text_kept self.now }
+    {
+        match self {
+            KeptText::Inline(short) => short.as_str(),
+            KeptText::Shared(text) => (**text).as_str(),
+            KeptText::Owned(text) => text.as_str(),
+        }
+    }
+}
 
 /// A text in UTF-8, which contracts see as its bytes.
-#[derive(Debug, Drop)]
+///
+/// A short text is kept in the value itself, and the copies of a longer one share its memory.
+#[derive(Drop)]
 pub struct Text {
-    text: String,
+    kept: KeptText,
 }
 
 impl Model for Text {
-    ghost use Rattle.std.specs.Prelude.{ℕ, List, string_bytes};
+    ghost use Rattle.std.specs.Prelude.{ℕ, List};
+    ghost use Rattle.cs_base.specs.ByteStrings.{text_kept};
 
     ghost Value = { List ℕ };
 
-    ghost view = { λ a. string_bytes a.text };
+    ghost view = { λ a. text_kept a.kept };
 }
 
 impl Text {
-    /// Takes the text over, without an allocation.
+    /// Takes the text over.
     pub fn from_string(text: String) -> Text
         ensures { result ≡ string_bytes text }
     {
-        Text { text }
+        match KeptText::inline(text.as_str()) {
+            Some(kept) => Text { kept },
+            None => {
+                let alloc = *text.allocator();
+                Text {
+                    kept: KeptText::shared(text, alloc),
+                }
+            }
+        }
     }
 
     /// A copy of the text.
     pub fn from_str(alloc: Global, text: &str) -> Result<Text, AllocError>
         ensures { IfOk result (λ copy. copy ≡ text.now) }
     {
-        Ok(Text {
-            text: String::from_str(alloc, text)?,
-        })
+        match KeptText::inline(text) {
+            Some(kept) => Ok(Text { kept }),
+            None => Ok(Text {
+                kept: KeptText::shared(String::from_str(alloc, text)?, alloc),
+            }),
+        }
     }
 
     pub fn as_str(&self) -> &str
         ensures { result.now ≡ self.now }
     {
-        self.text.as_str()
+        self.kept.as_str()
     }
 
-    /// Gives the text back, without an allocation.
-    pub fn into_string(self) -> String
-        ensures { string_bytes result ≡ self }
-    {
-        self.text
-    }
-
-    /// An equal text, in memory of its own.
+    /// An equal text.
     pub fn copy(&self, alloc: Global) -> Result<Text, AllocError>
         ensures { IfOk result (λ copy. copy ≡ self.now) }
     {
-        Text::from_str(alloc, self.as_str())
+        match &self.kept {
+            KeptText::Shared(text) => Ok(Text {
+                kept: KeptText::Shared(Arc::try_clone(text)?),
+            }),
+            kept => Text::from_str(alloc, kept.as_str()),
+        }
+    }
+}
+
+impl Debug for Text {
+    fn fmt<W: Write>(&self, f: &mut Formatter<W>) -> fmt::Result {
+        Debug::fmt(self.as_str(), f)
     }
 }
 
@@ -62,10 +126,22 @@ mod tests {
     use super::*;
     use std::test::Fail;
 
+    /// A short text, the longest that is kept inline, and one that is longer.
+    const TEXTS: [&str; 3] = [
+        "żółć",
+        "012345678901234567890123",
+        "0123456789012345678901234",
+    ];
+
     #[test]
-    fn copies_a_text(rt: HostRuntime) -> Result<(), Fail> {
-        let text = Text::from_str(rt.alloc(), "żółć")?;
-        assert_eq!(rt; text.copy(rt.alloc())?.as_str(), "żółć");
+    fn texts_are_kept_and_copied(rt: HostRuntime) -> Result<(), Fail> {
+        for text in TEXTS {
+            let kept = Text::from_str(rt.alloc(), text)?;
+            assert_eq!(rt; kept.as_str(), text);
+            assert_eq!(rt; kept.copy(rt.alloc())?.as_str(), text);
+            let taken = Text::from_string(String::from_str(rt.alloc(), text)?);
+            assert_eq!(rt; taken.copy(rt.alloc())?.as_str(), text);
+        }
         Ok(())
     }
 }

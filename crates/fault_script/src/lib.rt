@@ -19,8 +19,6 @@ mod reader;
 mod schema_lines;
 mod script;
 mod statements;
-#[cfg(test)]
-mod tests;
 
 pub use error::ParseError;
 pub use laws::{

@@ -71,17 +71,17 @@ const DRIVER: &str = "0001 0001000b43514c5f56455253494f4e0005332e342e30
 
 /// Flags and opcode, a body, and what it is.
 const BODIES: &str =
-    "0001 0001000b43514c5f56455253494f4e0005332e302e30 Startup(Items { items: [StringPair { key: Text { text: \"CQL_VERSION\" }, value: Text { text: \"3.0.0\" } }] })
+    "0001 0001000b43514c5f56455253494f4e0005332e302e30 Startup(Items { items: [StringPair { key: \"CQL_VERSION\", value: \"3.0.0\" }] })
 0a05  Options
-0007 00000006555345206b73000100 Query(Query { query: Text { text: \"USE ks\" }, parameters: QueryParameters { consistency: Level(One), values: Absent, skip_metadata: false, page_size: None, paging_state: None, serial_consistency: None, timestamp: None } })
-0007 000000017800067f0002000161ffffffff000162fffffffe000000640000000201800009ffffffffffffffff Query(Query { query: Text { text: \"x\" }, parameters: QueryParameters { consistency: Level(LocalQuorum), values: ByName(Items { items: [NamedValue { name: Text { text: \"a\" }, value: Null }, NamedValue { name: Text { text: \"b\" }, value: NotSet }] }), skip_metadata: true, page_size: Some(100), paging_state: Some(Some(Bytes { bytes: [1, 128] })), serial_consistency: Some(Level(LocalSerial)), timestamp: Some(-1) } })
-0007 0000000000000cfffffffffffffff0 Query(Query { query: Text { text: \"\" }, parameters: QueryParameters { consistency: Any, values: Absent, skip_metadata: false, page_size: Some(-1), paging_state: Some(None), serial_consistency: None, timestamp: None } })
-0009 00000006555345206b73 Prepare(Text { text: \"USE ks\" })
-000a 00026b730007010002000000040000000100000000 Execute(Execute { id: Bytes { bytes: [107, 115] }, parameters: QueryParameters { consistency: EachQuorum, values: ByPlace(Items { items: [Given(Bytes { bytes: [0, 0, 0, 1] }), Given(Bytes { bytes: [] })] }), skip_metadata: false, page_size: None, paging_state: None, serial_consistency: None, timestamp: None } })
-000b 00020001410000 Register(Items { items: [Text { text: \"A\" }, Text { text: \"\" }] })
-000d 0100020000000001780001ffffffff01000179000000043000080000000000000011 Batch(Batch { kind: Unlogged, entries: Items { items: [BatchEntry { statement: Query(Text { text: \"x\" }), values: Items { items: [Null] } }, BatchEntry { statement: Prepared(Bytes { bytes: [121] }), values: Items { items: [] } }] }, consistency: Level(Quorum), serial_consistency: Some(Level(Serial)), timestamp: Some(17) })
+0007 00000006555345206b73000100 Query(Query { query: \"USE ks\", parameters: QueryParameters { consistency: Level(One), values: Absent, skip_metadata: false, page_size: None, paging_state: None, serial_consistency: None, timestamp: None } })
+0007 000000017800067f0002000161ffffffff000162fffffffe000000640000000201800009ffffffffffffffff Query(Query { query: \"x\", parameters: QueryParameters { consistency: Level(LocalQuorum), values: ByName(Items { items: [NamedValue { name: \"a\", value: Null }, NamedValue { name: \"b\", value: NotSet }] }), skip_metadata: true, page_size: Some(100), paging_state: Some(Some([1, 128])), serial_consistency: Some(Level(LocalSerial)), timestamp: Some(-1) } })
+0007 0000000000000cfffffffffffffff0 Query(Query { query: \"\", parameters: QueryParameters { consistency: Any, values: Absent, skip_metadata: false, page_size: Some(-1), paging_state: Some(None), serial_consistency: None, timestamp: None } })
+0009 00000006555345206b73 Prepare(\"USE ks\")
+000a 00026b730007010002000000040000000100000000 Execute(Execute { id: [107, 115], parameters: QueryParameters { consistency: EachQuorum, values: ByPlace(Items { items: [Given([0, 0, 0, 1]), Given([])] }), skip_metadata: false, page_size: None, paging_state: None, serial_consistency: None, timestamp: None } })
+000b 00020001410000 Register(Items { items: [\"A\", \"\"] })
+000d 0100020000000001780001ffffffff01000179000000043000080000000000000011 Batch(Batch { kind: Unlogged, entries: Items { items: [BatchEntry { statement: Query(\"x\"), values: Items { items: [Null] } }, BatchEntry { statement: Prepared([121]), values: Items { items: [] } }] }, consistency: Level(Quorum), serial_consistency: Some(Level(Serial)), timestamp: Some(17) })
 000d 000000000100 Batch(Batch { kind: Logged, entries: Items { items: [] }, consistency: Level(One), serial_consistency: None, timestamp: None })
-0409 000200016bffffffff000000000001000000000178 Prepare(Text { text: \"x\" })";
+0409 000200016bffffffff000000000001000000000178 Prepare(\"x\")";
 
 /// Flags and opcode, a body, and why it is refused.
 const FAULTS: &str = "0400  Opcode(0)

@@ -7,25 +7,25 @@ use std::test::Fail;
 
 /// An opcode, a body, and what it is.
 const BODIES: &str = "02  Ready
-06 0002000b43514c5f56455253494f4e00010005332e342e30000b434f4d5052455353494f4e0000 Supported(Items { items: [SupportedOption { name: Text { text: \"CQL_VERSION\" }, values: Items { items: [Text { text: \"3.4.0\" }] } }, SupportedOption { name: Text { text: \"COMPRESSION\" }, values: Items { items: [] } }] })
+06 0002000b43514c5f56455253494f4e00010005332e342e30000b434f4d5052455353494f4e0000 Supported(Items { items: [SupportedOption { name: \"CQL_VERSION\", values: Items { items: [\"3.4.0\"] } }, SupportedOption { name: \"COMPRESSION\", values: Items { items: [] } }] })
 08 00000001 Void
-08 0000000300026b73 SetKeyspace(Text { text: \"ks\" })
-08 0000000400256b7300494e5345525420494e544f207420286b2c2076292056414c55455320283f2c203f29000000010000000200000001000000026b7300017400016b0009000176000d0000000400000000 Prepared(Prepared { id: Bytes { bytes: [107, 115, 0, 73, 78, 83, 69, 82, 84, 32, 73, 78, 84, 79, 32, 116, 32, 40, 107, 44, 32, 118, 41, 32, 86, 65, 76, 85, 69, 83, 32, 40, 63, 44, 32, 63, 41] }, variables: VariablesMetadata { variables: TableColumns { keyspace: Text { text: \"ks\" }, table: Text { text: \"t\" }, columns: Items { items: [Column { name: Text { text: \"k\" }, ty: Int }, Column { name: Text { text: \"v\" }, ty: Text }] } }, key_indexes: Items { items: [0] } }, result: RowsMetadata { columns: Counted(0), paging_state: None } })
-08 00000002000000010000000100026b73000174000176000d000000010000000178 Rows(Rows { metadata: RowsMetadata { columns: Described(TableColumns { keyspace: Text { text: \"ks\" }, table: Text { text: \"t\" }, columns: Items { items: [Column { name: Text { text: \"v\" }, ty: Text }] } }), paging_state: None }, row_count: 1, cells: Items { items: [Some(Bytes { bytes: [120] })] } })
-08 000000020000000300000002000000020180000161000162000163000100016400140000000200000000ffffffff0000000105ffffffff Rows(Rows { metadata: RowsMetadata { columns: Described(TableColumns { keyspace: Text { text: \"a\" }, table: Text { text: \"b\" }, columns: Items { items: [Column { name: Text { text: \"c\" }, ty: Ascii }, Column { name: Text { text: \"d\" }, ty: Tinyint }] } }), paging_state: Some(Some(Bytes { bytes: [1, 128] })) }, row_count: 2, cells: Items { items: [Some(Bytes { bytes: [] }), None, Some(Bytes { bytes: [5] }), None] } })
-08 0000000200000004000000010000000100000000 Rows(Rows { metadata: RowsMetadata { columns: Counted(1), paging_state: None }, row_count: 1, cells: Items { items: [Some(Bytes { bytes: [] })] } })
+08 0000000300026b73 SetKeyspace(\"ks\")
+08 0000000400256b7300494e5345525420494e544f207420286b2c2076292056414c55455320283f2c203f29000000010000000200000001000000026b7300017400016b0009000176000d0000000400000000 Prepared(Prepared { id: [107, 115, 0, 73, 78, 83, 69, 82, 84, 32, 73, 78, 84, 79, 32, 116, 32, 40, 107, 44, 32, 118, 41, 32, 86, 65, 76, 85, 69, 83, 32, 40, 63, 44, 32, 63, 41], variables: VariablesMetadata { variables: TableColumns { keyspace: \"ks\", table: \"t\", columns: Items { items: [Column { name: \"k\", ty: Int }, Column { name: \"v\", ty: Text }] } }, key_indexes: Items { items: [0] } }, result: RowsMetadata { columns: Counted(0), paging_state: None } })
+08 00000002000000010000000100026b73000174000176000d000000010000000178 Rows(Rows { metadata: RowsMetadata { columns: Described(TableColumns { keyspace: \"ks\", table: \"t\", columns: Items { items: [Column { name: \"v\", ty: Text }] } }), paging_state: None }, row_count: 1, cells: Items { items: [Some([120])] } })
+08 000000020000000300000002000000020180000161000162000163000100016400140000000200000000ffffffff0000000105ffffffff Rows(Rows { metadata: RowsMetadata { columns: Described(TableColumns { keyspace: \"a\", table: \"b\", columns: Items { items: [Column { name: \"c\", ty: Ascii }, Column { name: \"d\", ty: Tinyint }] } }), paging_state: Some(Some([1, 128])) }, row_count: 2, cells: Items { items: [Some([]), None, Some([5]), None] } })
+08 0000000200000004000000010000000100000000 Rows(Rows { metadata: RowsMetadata { columns: Counted(1), paging_state: None }, row_count: 1, cells: Items { items: [Some([])] } })
 08 000000020000000600000000ffffffff7fffffff Rows(Rows { metadata: RowsMetadata { columns: Counted(0), paging_state: Some(None) }, row_count: 2147483647, cells: Items { items: [] } })
-00 0000000000096e6f206d656d6f7279 Error(ErrorResponse { cause: Server, text: Text { text: \"no memory\" } })
-00 0000000a00106261642076616c7565206c656e677468 Error(ErrorResponse { cause: Protocol, text: Text { text: \"bad value length\" } })
-00 00001001000a6f7665726c6f61646564 Error(ErrorResponse { cause: Overloaded, text: Text { text: \"overloaded\" } })
-00 00002000000b73796e7461782061742037 Error(ErrorResponse { cause: Syntax, text: Text { text: \"syntax at 7\" } })
-00 00002200000a4b65794d697373696e67 Error(ErrorResponse { cause: Invalid, text: Text { text: \"KeyMissing\" } })
-00 00001000000b756e617661696c61626c6500040000000200000001 Error(ErrorResponse { cause: Unavailable(Unavailable { consistency: Level(Quorum), required: 2, alive: 1 }), text: Text { text: \"unavailable\" } })
-00 00001100000d77726974652074696d656f757400060000000100000002000653494d504c45 Error(ErrorResponse { cause: WriteTimeout(WriteTimeout { consistency: Level(LocalQuorum), received: 1, block_for: 2, write_type: Simple }), text: Text { text: \"write timeout\" } })
-00 00001100000d77726974652074696d656f7574000800000000000000020003434153 Error(ErrorResponse { cause: WriteTimeout(WriteTimeout { consistency: Level(Serial), received: 0, block_for: 2, write_type: Cas }), text: Text { text: \"write timeout\" } })
-00 00001200000c726561642074696d656f75740001000000000000000100 Error(ErrorResponse { cause: ReadTimeout(ReadTimeout { consistency: Level(One), received: 0, block_for: 1, data_present: false }), text: Text { text: \"read timeout\" } })
-00 00001200000c726561642074696d656f75740005000000010000000301 Error(ErrorResponse { cause: ReadTimeout(ReadTimeout { consistency: Level(All), received: 1, block_for: 3, data_present: true }), text: Text { text: \"read timeout\" } })
-00 00002500000a756e70726570617265640001ab Error(ErrorResponse { cause: Unprepared(Bytes { bytes: [171] }), text: Text { text: \"unprepared\" } })";
+00 0000000000096e6f206d656d6f7279 Error(ErrorResponse { cause: Server, text: \"no memory\" })
+00 0000000a00106261642076616c7565206c656e677468 Error(ErrorResponse { cause: Protocol, text: \"bad value length\" })
+00 00001001000a6f7665726c6f61646564 Error(ErrorResponse { cause: Overloaded, text: \"overloaded\" })
+00 00002000000b73796e7461782061742037 Error(ErrorResponse { cause: Syntax, text: \"syntax at 7\" })
+00 00002200000a4b65794d697373696e67 Error(ErrorResponse { cause: Invalid, text: \"KeyMissing\" })
+00 00001000000b756e617661696c61626c6500040000000200000001 Error(ErrorResponse { cause: Unavailable(Unavailable { consistency: Level(Quorum), required: 2, alive: 1 }), text: \"unavailable\" })
+00 00001100000d77726974652074696d656f757400060000000100000002000653494d504c45 Error(ErrorResponse { cause: WriteTimeout(WriteTimeout { consistency: Level(LocalQuorum), received: 1, block_for: 2, write_type: Simple }), text: \"write timeout\" })
+00 00001100000d77726974652074696d656f7574000800000000000000020003434153 Error(ErrorResponse { cause: WriteTimeout(WriteTimeout { consistency: Level(Serial), received: 0, block_for: 2, write_type: Cas }), text: \"write timeout\" })
+00 00001200000c726561642074696d656f75740001000000000000000100 Error(ErrorResponse { cause: ReadTimeout(ReadTimeout { consistency: Level(One), received: 0, block_for: 1, data_present: false }), text: \"read timeout\" })
+00 00001200000c726561642074696d656f75740005000000010000000301 Error(ErrorResponse { cause: ReadTimeout(ReadTimeout { consistency: Level(All), received: 1, block_for: 3, data_present: true }), text: \"read timeout\" })
+00 00002500000a756e70726570617265640001ab Error(ErrorResponse { cause: Unprepared([171]), text: \"unprepared\" })";
 
 /// An opcode, a body, and why it is refused.
 const FAULTS: &str = "01  Opcode(1)

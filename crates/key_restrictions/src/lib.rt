@@ -9,8 +9,6 @@ mod partition;
 mod places;
 mod restriction;
 mod rows;
-#[cfg(test)]
-mod tests;
 
 pub use checks::{filters, has_null, is_twice, is_whole, misses_slice, misses_whole, names_rows};
 pub use laws::bounds_enclose_rows;

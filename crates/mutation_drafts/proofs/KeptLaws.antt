@@ -1,42 +1,41 @@
 -- The first of each run of sorted drafts are those that are kept.
-use Rattle.std.proofs.Common.{◌≡◌, ◌≢◌, ℕ, Option, Some, None, List, Bool, true, false, refl, sym, ◌∙◌, ap, subst}
-use Rattle.std.specs.Prelude.{ℤ, is_some}
-use Rattle.std.specs.Cmp.{IsTotalOrder}
-use Rattle.std.specs.Cmp.Lexicographic.{slice_cmp, options_total}
+use Rattle.std.proofs.Common.{◌≡◌, ◌≢◌, Option, Some, None, List, Bool, true, false, refl, sym, ◌∙◌, ap, subst}
+use Rattle.std.specs.Prelude.{ℤ, is_none, is_some}
+use Rattle.std.specs.Cmp.{IsTotalOrder, bool_cmp_total}
+use Rattle.std.specs.Cmp.Lexicographic.{options_total}
 use Rattle.std.specs.List.{dedup}
-use Rattle.std.specs.List.Sorted.{IsPermutation, IsSorted}
+use Rattle.std.specs.List.Sorted.{IsPermutation, IsSorted, IsStrictlySortedBy}
 use Rattle.std.specs.Option.{option_cmp}
-use Rattle.std.specs.Ordering.{nat_cmp, int_cmp, is_eq, is_lt, flip_args, ordering_then}
+use Rattle.std.specs.Ordering.{int_cmp, is_eq, is_lt, ordering_then}
 use Rattle.std.specs.declared.cmp.Ordering.{Ordering}
 use Rattle.std.specs.declared.cmp.Ordering.TheVariants.{Less, Equal, Greater}
 use Rattle.std.proofs.lemmas.Bool.{false≢true, true≢false}
-use Rattle.std.proofs.lemmas.Cmp.{nat_list_cmp_total, int_cmp_total, on_total, then_total, back_total, eq_by_cmp_equiv}
+use Rattle.std.proofs.lemmas.Cmp.{int_cmp_total, on_total, then_total, back_total, eq_by_cmp_equiv, tied_itself}
 use Rattle.std.proofs.lemmas.List.Kept.{Contains-from_dedup, IsStrictlySortedBy-dedup}
 use Rattle.std.proofs.lemmas.List.Sorted.{Contains-permutation, IsPermutation-sym, ranks_by}
 use Rattle.changes.specs.declared.Draft.{Draft}
 use Rattle.changes.specs.Order.{value_cmp}
-use Rattle.mutation_drafts.specs.Kept.{AreRivals, IsKept, Stands, rank_cmp, timestamp_cmp}
-use Rattle.mutation_drafts.specs.Places.{draft_order, draft_signs}
-use Rattle.mutation_drafts.specs.Sorting.{best_first, sorting_cmp}
-use Rattle.mutation_drafts.proofs.PlaceLaws.{rivals_exact}
-use Rattle.mutation_drafts.proofs.RunLaws.{kept_for}
-use Rattle.mutation_drafts.proofs.SignLaws.{signs_total}
+use Rattle.changes.specs.Totals.{place_total}
+use Rattle.changes.proofs.Orderings.{equal_is, then_equal}
+use Rattle.changes.proofs.Places.{place_exact}
+use Rattle.changes.proofs.Ranks.{value_total}
+use Rattle.changes.proofs.Sorted.{kept_for}
+use Rattle.mutation_drafts.specs.Kept.{AreRivals, IsKept, Stands, best_first, clock_cmp, draft_order, rank_cmp, sorting_cmp, timestamp_cmp}
 
--- deletions stand above values as no value stands below all
-abbrev back_options : Option (List ℕ) → Option (List ℕ) → Ordering
-back_options = flip_args (option_cmp (flip_args (slice_cmp nat_cmp)))
+clock_exact : (a b : Option ℤ) → clock_cmp a b ≡ Equal → is_some a ≡ is_some b
+clock_exact None None p = refl
+clock_exact None (Some b) p = cc
+clock_exact (Some a) None p = cc
+clock_exact (Some a) (Some b) p = refl
 
-values_back : (a b : Option (List ℕ)) → back_options a b ≡ value_cmp a b
-values_back None None = refl
-values_back None (Some y) = refl
-values_back (Some x) None = refl
-values_back (Some x) (Some y) = refl
+-- drafts that compare alike are rivals
+rivals_exact : (x y : Draft) → draft_order x y ≡ Equal → AreRivals x y
+rivals_exact x y e =
+    let parts = then_equal _ _ e in
+    (place_exact x.place y.place parts.0, clock_exact x.timestamp y.timestamp parts.1)
 
-value_total : IsTotalOrder value_cmp
-value_total = subst (λ (R : Option (List ℕ) → Option (List ℕ) → Ordering). IsTotalOrder R) (λ i a b. values_back a b i) (back_total (options_total (back_total nat_list_cmp_total)))
-
-order_total : IsTotalOrder draft_order
-order_total = on_total draft_signs signs_total
+pub order_total : IsTotalOrder draft_order
+order_total = then_total (on_total (λ (d : Draft). d.place) place_total) (on_total (λ (d : Draft). is_none d.timestamp) bool_cmp_total)
 
 pub sorting_total : IsTotalOrder sorting_cmp
 sorting_total =
@@ -52,21 +51,29 @@ times_alike (Some a) (Some b) p = refl
 best_by_rank : (x y : Draft) → AreRivals x y → best_first y x ≡ rank_cmp x y
 best_by_rank x y rivals = ap (λ (o : Ordering). ordering_then o (value_cmp x.value y.value)) (times_alike x.timestamp y.timestamp rivals.1)
 
-is_equal : (o : Ordering) → is_eq o ≡ true → o ≡ Equal
-is_equal Less p = absurd (false≢true p)
-is_equal Equal p = refl
-is_equal Greater p = absurd (false≢true p)
-
 not_less : (o : Ordering) → is_lt o ≡ false → o ≢ Less
 not_less o p e = true≢false (sym (ap is_lt e) ∙ p)
 
 stands : (x y : Draft) → is_eq (draft_order y x) ≡ true → is_lt (sorting_cmp y x) ≡ false → Stands x y
 stands x y same standing =
-    let equal = is_equal (draft_order y x) same in
+    let equal = equal_is (draft_order y x) same in
     let back = rivals_exact y x equal in
     let rivals : AreRivals x y = (sym back.0, sym back.1) in
     let ranked : sorting_cmp y x ≡ rank_cmp x y = ap (λ (o : Ordering). ordering_then o (best_first y x)) equal ∙ best_by_rank x y rivals in
     (rivals, λ e. not_less (sorting_cmp y x) standing (ranked ∙ e))
+
+time_itself : (a : Option ℤ) → timestamp_cmp a a ≡ Equal
+time_itself None = refl
+time_itself (Some a) = tied_itself int_cmp_total a
+
+stands_itself : (x : Draft) → Stands x x
+stands_itself x =
+    let tied : rank_cmp x x ≡ Equal = ap (λ (o : Ordering). ordering_then o (value_cmp x.value x.value)) (time_itself x.timestamp) ∙ tied_itself value_total x.value in
+    ((refl, refl), λ less. cc)
+
+-- drafts in order are all kept
+pub ordered_is_kept : (all : List Draft) → IsStrictlySortedBy draft_order all → IsKept all all
+ordered_is_kept all up = record { within = λ x at. at; reached = λ y at. (y, at, stands_itself y); sorted = up }
 
 first_sorted : (a b : Ordering) → is_lt (ordering_then a b) ≡ false → is_lt a ≡ false
 first_sorted Less b p = p

@@ -1,4 +1,2 @@
-mod SignLaws
-mod PlaceLaws
-mod RunLaws
 mod KeptLaws
+mod CountedLaws

@@ -1,4 +1,2 @@
-pub mod Places
 pub mod Kept
-pub mod Lengths
-pub mod Sorting
+pub mod Counted

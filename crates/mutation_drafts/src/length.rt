@@ -1,75 +1,54 @@
 //! The size of a mutation.
 
-ghost use Rattle.std.specs.Prelude.{◌≡◌, ◌-◌};
-ghost use Rattle.mutation_drafts.specs.Lengths.{bound_length, change_length, field_length, is_long_mutation, partition_length, place_length, value_length};
+ghost use Rattle.std.specs.Prelude.{◌≡◌, ◌-◌, ◌^◌, ◌∷◌, min};
+ghost use Rattle.std.specs.Bool.{OnFalse};
+ghost use Rattle.mutation_drafts.specs.Counted.{counted, is_long_mutation, FitsAlways};
 
-use changes::{Bound, Draft, DraftMutation, Partition, Place};
-use cs_base::Bytes;
+use changes::{Draft, DraftMutation};
 
 /// 4 MiB.
-const MOST_MUTATION_BYTES: usize = 4_194_304;
+const MOST_MUTATION_BYTES: u64 = 4_194_304;
 
-// Counted down, so that no sum can overflow: `missing` bytes more make a mutation that is too long, and each function takes
-// the length of a part from them.
-
-fn without_field(missing: usize, bytes: &Bytes) -> usize
-    ensures { result ≡ missing - field_length bytes.now }
+/// The bytes of the first draft and those behind it.
+fn counted_from(first: &Draft, drafts: &[Draft]) -> u64
+    ensures { result ≡ min (counted (first.now ∷ drafts.now)) (2 ^ 64 - 1) }
 {
-    missing
-        .saturating_sub(4)
-        .saturating_sub(bytes.as_slice().len())
+    let mut last = first;
+    let mut longest = first.encoded_length();
+    let mut before = 0u64;
+    for draft in drafts {
+        let length = draft.encoded_length();
+        if last.place == draft.place {
+            longest = longest.max(length);
+        } else {
+            before = before.saturating_add(longest);
+            longest = length;
+            last = draft;
+        }
+    }
+    before.saturating_add(longest)
 }
 
-fn without_bound(missing: usize, bound: &Bound) -> usize
-    ensures { result ≡ missing - bound_length bound.now }
+/// The bytes of the changes, those of one place by the longest; what isn't below 2^64 counts as 2^64 - 1.
+fn counted_bytes(drafts: &[Draft]) -> u64
+    ensures { result ≡ min (counted drafts.now) (2 ^ 64 - 1) }
 {
-    without_field(missing.saturating_sub(1), &bound.at)
-}
-
-fn without_place(missing: usize, place: &Place) -> usize
-    ensures { result ≡ missing - place_length place.now }
-{
-    match place {
-        Place::Cell(row, _) => without_field(missing.saturating_sub(1), row),
-        Place::Marker(row) | Place::RowGone(row) => without_field(missing, row),
-        Place::RangeGone(from, upto) => without_bound(without_bound(missing, from), upto),
-        Place::PartGone => missing,
+    match drafts {
+        [] => 0,
+        [first, rest @ ..] => counted_from(first, rest),
     }
 }
 
-fn without_value(missing: usize, place: &Place, value: &Option<Bytes>) -> usize
-    ensures { result ≡ missing - value_length place.now value.now }
-{
-    match (place, value) {
-        (Place::Cell(_, _), Some(value)) => without_field(missing.saturating_sub(1), value),
-        (Place::Cell(_, _), None) => missing.saturating_sub(1),
-        _ => missing,
-    }
-}
-
-fn without_change(missing: usize, draft: &Draft) -> usize
-    ensures { result ≡ missing - change_length draft.now }
-{
-    let missing = without_place(missing.saturating_sub(1), &draft.place);
-    without_value(missing, &draft.place, &draft.value).saturating_sub(8 + 8 + 1 + 8)
-}
-
-fn without_partition(missing: usize, partition: &Partition) -> usize
-    ensures { result ≡ missing - partition_length partition.now }
-{
-    without_field(missing.saturating_sub(2 + 8), &partition.key)
-}
-
-/// Whether the mutation has more than 4 MiB as it is stored.
+/// Whether the mutation of some request may have more than 4 MiB as it is stored: of changes of one place only one will stay,
+/// and the longest counts.
 pub fn is_long(mutation: &DraftMutation) -> bool
-    ensures { result ≡ is_long_mutation mutation.now }
+    ensures counted { result ≡ is_long_mutation mutation.now }
+    ensures fits { OnFalse result (FitsAlways mutation.now) }
 {
-    let mut missing = without_partition(
-        MOST_MUTATION_BYTES + 1,
-        &mutation.partition,
-    ).saturating_sub(4);
-    for draft in mutation.changes.as_slice() {
-        missing = without_change(missing, draft);
-    }
-    missing == 0
+    let length = mutation
+        .partition
+        .encoded_length()
+        .saturating_add(4)
+        .saturating_add(counted_bytes(mutation.changes.as_slice()));
+    length > MOST_MUTATION_BYTES
 }

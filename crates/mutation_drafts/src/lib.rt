@@ -4,8 +4,6 @@
 mod keeping;
 mod length;
 mod order;
-#[cfg(test)]
-mod tests;
 
 pub use keeping::kept;
 pub use length::is_long;

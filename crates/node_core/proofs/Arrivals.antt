@@ -1,26 +1,34 @@
 -- When what a node takes in came to be there.
-use Rattle.std.proofs.Common.{◌≡◌, ℕ, ◌⊎◌, inl, inr, List, [], ◌∷◌, Contains, refl, ap, subst, ◌∙◌}
-use Rattle.std.specs.List.{list_any}
-use Rattle.std.proofs.lemmas.Bool.{cases_Bool, both_ways}
+use Rattle.std.proofs.Common.{◌≡◌, ℕ, ◌⊎◌, inl, inr, List, [], ◌∷◌, Contains, refl, sym, ap, subst, ◌∙◌}
+use Rattle.std.specs.declared.cmp.Ordering.{Ordering}
+use Rattle.std.specs.declared.cmp.Ordering.TheVariants.{Less, Equal, Greater}
+use Rattle.std.proofs.lemmas.Cmp.{tied_itself}
 use Rattle.changes.specs.declared.Partition.{Partition}
 use Rattle.changes.specs.declared.Held.{Held}
 use Rattle.changes.specs.declared.Change.{Change}
-use Rattle.change_laws.proofs.Members.{contains_nil, contains_cases, contains_here, contains_there}
-use Rattle.change_laws.proofs.PartitionLaws.{same_or_apart}
-use Rattle.cell_merge.specs.Tests.{same_by}
-use Rattle.cell_merge.proofs.AmongLaws.{among_iff}
+use Rattle.cs_base.proofs.Members.{contains_nil, contains_cases, contains_here, contains_there}
+use Rattle.changes.proofs.Partitions.{same_or_apart}
+use Rattle.changes.specs.Order.{rank_cmp}
+use Rattle.changes.proofs.Orderings.{cases_ordering}
+use Rattle.changes.proofs.Places.{same_place_or_not}
+use Rattle.changes.proofs.Ranks.{rank_total, rank_exact}
 use Rattle.node_steps.specs.State.{Stored, change_of, changes_of}
 use Rattle.node_steps.specs.Replicas.{ArriveAt}
 
+ranks_apart : (x y : Held) (o : Ordering) → rank_cmp x y ≡ o → (o ≡ Equal → ⊥) → x ≡ y → ⊥
+ranks_apart x y o is other same = other (sym is ∙ subst (λ (z : Held). rank_cmp x z ≡ Equal) same (tied_itself rank_total x))
+
+at_one_place : (x y : Held) → x.place ≡ y.place → (x ≡ y) ⊎ (x ≡ y → ⊥)
+at_one_place x y place = elim (cases_ordering (rank_cmp x y)) [
+  | inl less ↦ inr (ranks_apart x y Less less (λ e. cc))
+  | inr (inl equal) ↦ inl (rank_exact x y place equal)
+  | inr (inr greater) ↦ inr (ranks_apart x y Greater greater (λ e. cc))
+]
+
 held_same_or_not : (x y : Held) → (x ≡ y) ⊎ (x ≡ y → ⊥)
-held_same_or_not x y = elim (cases_Bool (list_any (λ z. same_by y z) (x ∷ []))) [
-  | inl there ↦
-      elim (contains_cases x [] y ((among_iff (x ∷ []) y).0 there)) [
-        | inl same ↦ inl same
-        | inr rest ↦ absurd (contains_nil y rest)
-      ]
-  | inr away ↦
-      inr (λ same. both_ways (list_any (λ z. same_by y z) (x ∷ [])) away ((among_iff (x ∷ []) y).1 (subst (λ (z : Held). Contains (x ∷ []) z) same (contains_here x []))))
+held_same_or_not x y = elim (same_place_or_not x.place y.place) [
+  | inl place ↦ at_one_place x y place
+  | inr apart ↦ inr (λ same. apart (ap (λ (z : Held). z.place) same))
 ]
 
 change_made : (p q : Partition) (x y : Held) → p ≡ q → x ≡ y → let c : Change = record { partition = p; held = x } in c ≡ record { partition = q; held = y }

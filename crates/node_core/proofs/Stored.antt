@@ -13,12 +13,17 @@ use Rattle.changes.specs.declared.Held.{Held}
 use Rattle.changes.specs.declared.Change.{Change}
 use Rattle.changes.specs.declared.Query.{Query}
 use Rattle.changes.specs.Order.{partition_cmp}
-use Rattle.changes.specs.Contents.{Either, IsContent}
+use Rattle.changes.specs.Contents.{Either, IsContent, IsMergeOf}
+use Rattle.change_laws.proofs.Contents.{IsContent-same, IsContent-onto, Either_swap, merge_commutes}
+use Rattle.std.specs.List.Sorted.{IsStrictlySortedBy}
+use Rattle.std.specs.Prelude.{Result, Ok, Err, IfOk}
+use Rattle.changes.specs.Places.{AreInOrder}
 use Rattle.changes.specs.Queries.{IsSlice}
-use Rattle.change_laws.proofs.PartitionLaws.{partition_total, partition_exact}
-use Rattle.change_laws.proofs.Members.{contains_nil, contains_cases, contains_here, contains_there, contains_map, contains_from_map}
+use Rattle.changes.specs.Totals.{partition_total}
+use Rattle.changes.proofs.Partitions.{partition_exact}
+use Rattle.cs_base.proofs.Members.{contains_nil, contains_cases, contains_here, contains_there, contains_map, contains_from_map}
 use Rattle.node_steps.specs.State.{Holds}
-use Rattle.node_steps.specs.Replicas.{IsAnswerTo, TakesIn}
+use Rattle.node_steps.specs.Replicas.{IsAnswerTo, IsReplyTo, TakesIn}
 use Rattle.node_core.specs.Stores.{stored, stored_all, all_of}
 
 equal_at : (o : Ordering) → is_eq o ≡ true → o ≡ Equal
@@ -126,15 +131,33 @@ takes_in m n p o kept changes ordered ordered' at updates content =
           );
     }
 
-pub answers : (m : BTreeMap Partition (List Held)) (q : Query) (o : Option (List Held)) (part : List Held) → IsOrdered partition_cmp m → o ≡ found_at m q.partition
+answered : (m : BTreeMap Partition (List Held)) (q : Query) (o : Option (List Held)) (part : List Held) → IsOrdered partition_cmp m → o ≡ found_at m q.partition
     → IsSlice q.from q.upto (unwrap_or o []) part → IsAnswerTo (all_of m.entries) q part
-answers m q o part ordered at slice x = (
+answered m q o part ordered at slice x = (
   λ h. let found = (slice x).0 h in (found_holds m q.partition x (subst (λ (v : Option (List Held)). HasIn v x) at found.0), found.1),
   λ h. (slice x).1 (subst (λ (v : Option (List Held)). HasIn v x) (sym at) (holds_found m q.partition x ordered h.0), h.1),
 )
+
+pub answers : (m : BTreeMap Partition (List Held)) (q : Query) (o : Option (List Held)) (part : List Held) → IsOrdered partition_cmp m → o ≡ found_at m q.partition
+    → IsSlice q.from q.upto (unwrap_or o []) part → AreInOrder part → IsReplyTo (all_of m.entries) q part
+answers m q o part ordered at slice order = (answered m q o part ordered at slice, order)
 
 pub slice_nothing : (q : Query) → IsSlice q.from q.upto [] []
 slice_nothing q x = (λ h. absurd (contains_nil x h), λ h. absurd (contains_nil x h.0))
 
 pub is_some_found : (m : BTreeMap Partition (List Held)) (p : Partition) (kept : List Held) → Some kept ≡ found_at m p → IsSome (found_at m p)
 is_some_found m p kept at = subst (λ (o : Option (List Held)). IsSome o) at refl
+
+pub nothing_in_order : AreInOrder []
+unfolding IsStrictlySortedBy
+nothing_in_order = tt
+
+pub if_ok_both : {Y E : Type 0} (r : Result Y E) (P Q R : Y → Type 0) → ((y : Y) → P y → Q y → R y) → IfOk r P → IfOk r Q → IfOk r R
+if_ok_both (Ok y) P Q R f p q = f y p q
+if_ok_both (Err e) P Q R f p q = tt
+
+-- what was held is merged with the content of what came
+pub taken_content : (held content kept changes : List Held) → IsContent content (Contains changes) → IsMergeOf kept held content → IsContent kept (Either (Contains held) (Contains changes))
+taken_content held content kept changes is merge =
+    IsContent-same kept (Either (Contains changes) (Contains held)) (Either (Contains held) (Contains changes)) (Either_swap (Contains changes) (Contains held))
+    (Either_swap (Contains held) (Contains changes)) (IsContent-onto content kept (Contains changes) (Contains held) is (merge_commutes held content kept merge))

@@ -31,7 +31,7 @@ use Rattle.node_steps.specs.State.{NodeState, OpenWrite, OpenRead, Stored, chang
 use Rattle.node_steps.specs.Effects.{Effects, effects_of, outbound, send_to, open_at, Takes}
 use Rattle.node_steps.specs.Writes.{HearsAck, start_write, started_write}
 use Rattle.node_steps.specs.Reads.{is_stray, TellsRows, MergesReply, HearsReply, start_read, started_read}
-use Rattle.node_steps.specs.Replicas.{replies, TakesIn, IsAnswerTo}
+use Rattle.node_steps.specs.Replicas.{replies, TakesIn, IsReplyTo}
 use Rattle.node_steps.specs.Requests.{refusal_of, Begins, BeginsOrRefuses}
 use Rattle.node_steps.specs.Acts.{Hears, Asks, Does, own_sends}
 use Rattle.node_steps.specs.Steps.{message_of, messages_of}
@@ -82,8 +82,8 @@ taken_there : (content content' : List Stored) (xs ys : List Change) (p : Partit
 taken_there content content' xs ys p changes old new t =
     subst (λ (zs : List Change). TakesIn zs p changes (changes_of content')) (sym old) (subst (λ (zs : List Change). TakesIn xs p changes zs) (sym new) t)
 
-answered_there : (content : List Stored) (xs : List Change) (q : Query) (part : List Held) → changes_of content ≡ xs → IsAnswerTo xs q part → IsAnswerTo (changes_of content) q part
-answered_there content xs q part held answer = subst (λ (zs : List Change). IsAnswerTo zs q part) (sym held) answer
+answered_there : (content : List Stored) (xs : List Change) (q : Query) (part : List Held) → changes_of content ≡ xs → IsReplyTo xs q part → IsReplyTo (changes_of content) q part
+answered_there content xs q part held answer = subst (λ (zs : List Change). IsReplyTo zs q part) (sym held) answer
 
 -- ---- what goes back to its sender
 

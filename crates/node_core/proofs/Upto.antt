@@ -3,7 +3,7 @@ use Rattle.std.proofs.Common.{◌≡◌, inl, inr, ℕ, suc, ◌<◌, ◌≤◌,
 use Rattle.std.specs.declared.cmp.Ordering.{Ordering}
 use Rattle.std.specs.declared.cmp.Ordering.TheVariants.{Less, Equal, Greater}
 use Rattle.std.proofs.lemmas.Map.Lookups.{exact_unsigned}
-use Rattle.change_laws.proofs.SignLaws.{then_equal}
+use Rattle.changes.proofs.Orderings.{then_equal}
 use Rattle.changes.specs.Drafts.{mutation_of}
 use Rattle.node_core.proofs.Chains.{goes_to_alive}
 use Rattle.std.specs.Prelude.{All}

@@ -20,7 +20,7 @@ use Rattle.node_steps.specs.Steps.{messages_of, message_of}
 use Rattle.node_core.specs.Gives.{own_of}
 use Rattle.node_steps.specs.Writes.{HearsAck, start_write, started_write}
 use Rattle.node_steps.specs.Reads.{HearsReply, start_read, started_read}
-use Rattle.node_steps.specs.Replicas.{TakesIn, IsAnswerTo}
+use Rattle.node_steps.specs.Replicas.{TakesIn, IsReplyTo}
 use Rattle.node_core.specs.Stores.{all_of}
 use Rattle.node_core.specs.declared.kept.Kept.{Kept}
 use Rattle.node_core.specs.declared.kept.Given.{Given}
@@ -69,14 +69,14 @@ pub record WritesHere (c : Setting) (id : ReqId) (w : OpenWrite) (m : Mutation) 
 
 pub record Replies (c : Setting) (id : ReqId) (q : Query) (k k' : Kept) (g g' : Given) : Type 0 where
   pub part : List Held
-  pub answer : IsAnswerTo (all_of k.contents.entries) q part
+  pub answer : IsReplyTo (all_of k.contents.entries) q part
   pub turn : Move
   pub hears : AtRequest (HearsReply c id id.node part) id k.reads.entries turn k'.reads.entries
   pub goes_on : GoesOn turn g g'
 
 pub record ReadsHere (c : Setting) (id : ReqId) (r : OpenRead) (q : Query) (k k' : Kept) (g g' : Given) : Type 0 where
   pub part : List Held
-  pub answer : IsAnswerTo (all_of k.contents.entries) q part
+  pub answer : IsReplyTo (all_of k.contents.entries) q part
   pub turn : Move
   pub hears : AtRequest (HearsReply c id id.node part) id (insert_entry request_cmp k.reads.entries id r) turn k'.reads.entries
   pub contents : k'.contents.entries ≡ k.contents.entries
@@ -127,7 +127,7 @@ pub record HearsWriteAck (c : Setting) (p : Place) (k k' : Kept) (g : Given) : T
 
 pub record HearsRead (p : Place) (q : Query) (k k' : Kept) (g : Given) : Type 0 where
   pub part : List Held
-  pub answer : IsAnswerTo (all_of k.contents.entries) q part
+  pub answer : IsReplyTo (all_of k.contents.entries) q part
   pub given : g ≡ reply_given p (ReadReply part)
 
 pub record HearsReadReply (c : Setting) (p : Place) (content : List Held) (k k' : Kept) (g : Given) : Type 0 where

@@ -3,62 +3,63 @@
 ghost use Rattle.std.specs.Prelude.{◌≡◌, None, IfOk, OnOk, OnErr};
 ghost use Rattle.std.specs.BTreeMap.{IsOrdered, get};
 ghost use Rattle.changes.specs.Order.{partition_cmp};
-ghost use Rattle.node_steps.specs.Replicas.{TakesIn, IsAnswerTo};
 ghost use Rattle.node_core.specs.Stores.{all_of};
+ghost use Rattle.node_steps.specs.Replicas.{TakesIn, IsReplyTo};
 
+use crate::held::HeldContent;
 use cell_merge::Content;
-use changes::{Helds, Partition, Query};
+use changes::{Helds, Mutation, Partition, Query};
 use std::alloc::{AllocError, Global};
 use std::collections::BTreeMap;
 
-/// Takes changes into a partition.
+/// Takes the changes of a mutation in.
 pub(crate) fn take_in(
-    contents: &mut BTreeMap<Partition, Content>,
+    contents: &mut BTreeMap<Partition, HeldContent>,
     alloc: Global,
-    partition: &Partition,
-    changes: &Helds,
+    mutation: Mutation,
 ) -> Result<(), AllocError>
     requires { IsOrdered partition_cmp contents.old }
-    ensures ok { OnOk result (TakesIn (all_of contents.old.entries) partition.now changes.now (all_of contents.new.entries)) }
+    ensures ok { OnOk result (TakesIn (all_of contents.old.entries) mutation.partition mutation.changes (all_of contents.new.entries)) }
     ensures ordered { IsOrdered partition_cmp contents.new }
     ensures err { OnErr result (contents.new.entries ≡ contents.old.entries) }
 {
-    match contents.get_mut(partition) {
-        Some(content) => content.apply(changes),
+    let Mutation { partition, changes } = mutation;
+    match contents.get_mut(&partition) {
+        Some(content) => content.take_in(alloc, changes),
         None => begin(contents, alloc, partition, changes),
     }
 }
 
 /// Takes changes into a partition of which nothing is held yet.
 fn begin(
-    contents: &mut BTreeMap<Partition, Content>,
+    contents: &mut BTreeMap<Partition, HeldContent>,
     alloc: Global,
-    partition: &Partition,
-    changes: &Helds,
+    partition: Partition,
+    changes: Helds,
 ) -> Result<(), AllocError>
     requires ordered { IsOrdered partition_cmp contents.old }
-    requires new { get partition_cmp contents.old partition.now ≡ None }
-    ensures ok { OnOk result (TakesIn (all_of contents.old.entries) partition.now changes.now (all_of contents.new.entries)) }
+    requires new { get partition_cmp contents.old partition ≡ None }
+    ensures ok { OnOk result (TakesIn (all_of contents.old.entries) partition changes (all_of contents.new.entries)) }
     ensures ordered { IsOrdered partition_cmp contents.new }
     ensures err { OnErr result (contents.new.entries ≡ contents.old.entries) }
 {
-    let mut content = Content::new(alloc);
-    content.apply(changes)?;
-    contents.insert(partition.copy(alloc)?, content)?;
+    let mut content = HeldContent::new(alloc);
+    content.take_in(alloc, changes)?;
+    contents.insert(partition, content)?;
     Ok(())
 }
 
 /// All that is held of what the query asks.
 pub(crate) fn answer(
-    contents: &BTreeMap<Partition, Content>,
+    contents: &BTreeMap<Partition, HeldContent>,
     alloc: Global,
     query: &Query,
 ) -> Result<Content, AllocError>
     requires { IsOrdered partition_cmp contents.now }
-    ensures { IfOk result (λ part. IsAnswerTo (all_of contents.now.entries) query.now part) }
+    ensures { IfOk result (λ part. IsReplyTo (all_of contents.now.entries) query.now part) }
 {
     match contents.get(&query.partition) {
-        Some(content) => content.slice(alloc, &query.from, &query.upto),
+        Some(content) => content.answer(alloc, query),
         None => Ok(Content::new(alloc)),
     }
 }

@@ -16,6 +16,7 @@ ghost use Rattle.node_core.specs.Gives.{own_of};
 ghost use Rattle.node_core.specs.Here.{Opens};
 
 use crate::contents::{answer, take_in};
+use crate::held::HeldContent;
 use crate::requests::{hear_ack, hear_reply};
 use cell_merge::Content;
 use changes::{DraftMutation, Mutation, Partition, Query};
@@ -30,7 +31,7 @@ use write_coord::WriteCoord;
 /// What a node holds, by partition, and the requests of clients whose coordinator it is, by id.
 #[derive(Drop)]
 pub(crate) struct Kept {
-    pub contents: BTreeMap<Partition, Content>,
+    pub contents: BTreeMap<Partition, HeldContent>,
     pub writes: BTreeMap<ReqId, WriteCoord>,
     pub reads: BTreeMap<ReqId, ReadCoord>,
 }
@@ -205,22 +206,17 @@ impl Kept {
         alloc: Global,
         setting: &Setting,
         request: ReqId,
-        mutation: &Mutation,
+        mutation: Mutation,
         given: Given,
     ) -> Result<Given, AllocError>
         requires { IsOrdered partition_cmp self.old.contents }
-        ensures ok { IfOk result (λ now. Acknowledges setting.now request mutation.now self.old self.new given now) }
+        ensures ok { IfOk result (λ now. Acknowledges setting.now request mutation self.old self.new given now) }
         ensures ordered { IsOrdered partition_cmp self.new.contents }
         ensures err { OnErr result (HasOnlyMovedWrite request self.old self.new) }
     {
         let turn = hear_ack(&mut self.writes, alloc, setting, request, request.node)?;
         let now = given.with_entries(turn.entries)?;
-        take_in(
-            &mut self.contents,
-            alloc,
-            &mutation.partition,
-            &mutation.changes,
-        )?;
+        take_in(&mut self.contents, alloc, mutation)?;
         Ok(now)
     }
 
@@ -231,12 +227,12 @@ impl Kept {
         setting: &Setting,
         request: ReqId,
         write: WriteCoord,
-        mutation: &Mutation,
+        mutation: Mutation,
         given: Given,
     ) -> Result<Given, AllocError>
         requires ordered { IsOrdered partition_cmp self.old.contents }
         requires new { open_at self.old.writes.entries request ≡ None }
-        ensures ok { IfOk result (λ now. WritesHere setting.now request write mutation.now self.old self.new given now) }
+        ensures ok { IfOk result (λ now. WritesHere setting.now request write mutation self.old self.new given now) }
         ensures ordered { IsOrdered partition_cmp self.new.contents }
         ensures err { OnErr result (IsSameKept self.old self.new) }
     {
@@ -334,7 +330,7 @@ impl Kept {
         let Opened { given, own } = opened;
         match own {
             Some(Body::Write(mutation)) => {
-                self.write_here(alloc, setting, request, write, &mutation, given)
+                self.write_here(alloc, setting, request, write, mutation, given)
             }
             _ => self.write_elsewhere(request, write, given),
         }
@@ -435,7 +431,7 @@ impl Kept {
         ensures err { OnErr result (IsSameKept self.old self.new) }
     {
         match body {
-            Body::Write(mutation) => self.hear_write(alloc, place, &mutation),
+            Body::Write(mutation) => self.hear_write(alloc, place, mutation),
             Body::WriteAck => self.hear_ack(alloc, setting, place),
             Body::Read(query) => self.hear_read(alloc, place, &query),
             Body::ReadReply(content) => self.hear_reply(alloc, setting, place, content),
@@ -446,21 +442,16 @@ impl Kept {
         &mut self,
         alloc: Global,
         place: Place,
-        mutation: &Mutation,
+        mutation: Mutation,
     ) -> Result<Given, AllocError>
         requires { IsOrdered partition_cmp self.old.contents }
-        ensures ok { IfOk result (λ given. HearsWrite place mutation.now self.old self.new given) }
+        ensures ok { IfOk result (λ given. HearsWrite place mutation self.old self.new given) }
         ensures ordered { IsOrdered partition_cmp self.new.contents }
         ensures same { (self.new.writes ≡ self.old.writes) × (self.new.reads ≡ self.old.reads) }
         ensures err { OnErr result (self.new.contents.entries ≡ self.old.contents.entries) }
     {
         let given = place.replies(alloc, Body::WriteAck)?;
-        take_in(
-            &mut self.contents,
-            alloc,
-            &mutation.partition,
-            &mutation.changes,
-        )?;
+        take_in(&mut self.contents, alloc, mutation)?;
         Ok(given)
     }
 

@@ -2,11 +2,10 @@
 #![tactic(auto)]
 
 mod contents;
+mod held;
 mod kept;
 mod node;
 mod requests;
 mod taking;
-#[cfg(test)]
-mod tests;
 
 pub use node::{Node, StepError};

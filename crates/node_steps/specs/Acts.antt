@@ -13,7 +13,7 @@ use Rattle.node_steps.specs.State.{NodeState, OpenWrite, OpenRead, changes_of}
 use Rattle.node_steps.specs.Effects.{Effects, nothing, effects_of, AtRequest}
 use Rattle.node_steps.specs.Writes.{HearsAck}
 use Rattle.node_steps.specs.Reads.{HearsReply}
-use Rattle.node_steps.specs.Replicas.{Asker, replies, TakesIn, ArriveAt, IsAnswerTo}
+use Rattle.node_steps.specs.Replicas.{Asker, replies, TakesIn, ArriveAt, IsReplyTo}
 use Rattle.node_steps.specs.Requests.{refusal_of, BeginsOrRefuses}
 
 -- a body that comes to a node, its own ones too
@@ -47,7 +47,7 @@ HearsBody c a (Write m) s o s' =
     TakesIn (changes_of s.content) m.partition m.changes (changes_of s'.content) × ArriveAt s.time s.content s'.content
     × (o ≡ replies a WriteAck) × (s' ≡ record s { content = s'.content })
 HearsBody c a WriteAck s o s' = AtWrite (HearsAck c a.request a.from) a.request s o s'
-HearsBody c a (Read q) s o s' = (part : List Held) × IsAnswerTo (changes_of s.content) q part × (o ≡ replies a (ReadReply part)) × (s' ≡ s)
+HearsBody c a (Read q) s o s' = (part : List Held) × IsReplyTo (changes_of s.content) q part × (o ≡ replies a (ReadReply part)) × (s' ≡ s)
 HearsBody c a (ReadReply content) s o s' = AtRead (HearsReply c a.request a.from content) a.request s o s'
 
 -- From s node me may make this move, and give these effects

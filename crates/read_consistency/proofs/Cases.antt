@@ -15,9 +15,10 @@ use Rattle.changes.specs.declared.DraftMutation.{DraftMutation}
 use Rattle.changes.specs.declared.Query.{Query}
 use Rattle.statement_plan.specs.declared.plan.Columns.{Columns}
 use Rattle.changes.specs.Drafts.{mutation_of}
-use Rattle.change_laws.proofs.SignLaws.{then_equal}
-use Rattle.change_laws.proofs.OrderLaws.{request_made}
-use Rattle.change_laws.proofs.Members.{contains_nil, contains_cases, contains_here, contains_from_map, from_insert_entry}
+use Rattle.changes.proofs.Orderings.{then_equal}
+use Rattle.changes.proofs.Ranks.{request_made}
+use Rattle.cs_base.proofs.Members.{contains_nil, contains_cases, contains_here, contains_from_map}
+use Rattle.cs_base.proofs.Entries.{from_insert_entry}
 use Rattle.peer_messages.specs.declared.event.Ask.{Ask}
 use Rattle.peer_messages.specs.declared.event.Plan.{Plan}
 use Rattle.peer_messages.specs.declared.event.Plan.TheVariants as plan

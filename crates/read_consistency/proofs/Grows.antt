@@ -10,8 +10,8 @@ use Rattle.changes.specs.declared.Held.{Held}
 use Rattle.changes.specs.declared.Mutation.{Mutation}
 use Rattle.changes.specs.declared.Query.{Query}
 use Rattle.statement_plan.specs.declared.plan.Columns.{Columns}
-use Rattle.change_laws.proofs.Members.{contains_cases, contains_here, contains_there}
-use Rattle.change_laws.proofs.OrderLaws.{request_made}
+use Rattle.cs_base.proofs.Members.{contains_cases, contains_here, contains_there}
+use Rattle.changes.proofs.Ranks.{request_made}
 use Rattle.peer_messages.specs.declared.message.Body.{Body}
 use Rattle.peer_messages.specs.declared.message.Body.TheVariants.{Write, WriteAck, Read, ReadReply}
 use Rattle.peer_messages.specs.declared.chronicle.Entry.{Entry}

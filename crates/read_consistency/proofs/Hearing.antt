@@ -19,7 +19,7 @@ use Rattle.changes.specs.declared.Query.{Query}
 use Rattle.changes.specs.declared.ShownRow.{ShownRow}
 use Rattle.changes.specs.Contents.{IsMergeOf}
 use Rattle.changes.specs.Shown.{IsShown}
-use Rattle.change_laws.proofs.Members.{contains_cases, contains_here, contains_there, contains_push, contains_from_map}
+use Rattle.cs_base.proofs.Members.{contains_cases, contains_here, contains_there, contains_push, contains_from_map}
 use Rattle.peer_messages.specs.declared.message.Body.TheVariants.{Write, WriteAck, Read, ReadReply}
 use Rattle.peer_messages.specs.declared.chronicle.Entry.{Entry}
 use Rattle.peer_messages.specs.declared.chronicle.Entry.TheVariants.{Acked, Rows}
@@ -36,7 +36,7 @@ use Rattle.node_steps.specs.Replicas.{replies}
 use Rattle.node_steps.specs.Acts.{Act, Incoming, HearsBody}
 use Rattle.cluster_runs.specs.Chronicle.{submission_of}
 use Rattle.cluster_runs.specs.Trace.{Scene, WasMade}
-use Rattle.cluster_runs.proofs.Lists.{get_set}
+use Rattle.cs_base.proofs.Slots.{get_set}
 use Rattle.read_consistency.proofs.Facts.{WasBegun, Reaches, HasAll, IsQueryOf, Sees, Answers, ReplyOk, BodyIs, BodyOk, WriteOk, ReadOk, Explains}
 use Rattle.read_consistency.proofs.Grows.{begun_on, of_on, stands_in, write_on, read_on, node_on, submission_in}
 use Rattle.read_consistency.proofs.Reach.{grown, taken, source, slice_reached, merge_first, merge_second, merge_answers}
@@ -213,7 +213,7 @@ ack_heard c w k from id s s' o e at a has (turn, moves, is, same) =
 
 pub read_heard : (c : Setting) (w : Scene) (k from : ℕ) (id : ReqId) (q : Query) (s s' : NodeState) (o : Effects) → Explains c w → slice_get w.nodes k ≡ Some s → (a : Act) → WasBegun w.past id → IsQueryOf w.chronicle id q
     → HearsBody c (record { from = from; request = id }) (Read q) s o s' → Explains c (next w k a s o s')
-read_heard c w k from id q s s' o e at a begun query (part, answer, is, same) =
+read_heard c w k from id q s s' o e at a begun query (part, (answer, order), is, same) =
     let sends = send_to id (ReadReply part) (from ∷ []) in
     let w' = quietly w k a s s sends in
     let g = quietly_grows w k a s s sends at (λ p x h. h) in
@@ -314,7 +314,7 @@ reply_merged c w k from a id content s r r' turn true e at ok reply (is, same) =
     subst (λ (t : Move). Explains c (next w k a s (effects_of t) (record s { reads = after_move t.ended id r' s.reads }))) (sym is)
     (reply_waits c w k a id s r' e at (subst (λ (x : OpenRead). ReadOk w id x) (sym same) ok))
 reply_merged c w k from a id content s r r' turn false e at ok reply (n, is, merge, counts) =
-    reply_counted c w k a id s n r' turn (nat_lt (heard_of (replicas_of c n.query.partition) n.heard) (needed c n.level n.query.partition)) e at (merged_ok c w from id content r n ok reply is merge) refl counts
+    reply_counted c w k a id s n r' turn (nat_lt (heard_of (replicas_of c n.query.partition) n.heard) (needed c n.level n.query.partition)) e at (merged_ok c w from id content r n ok reply is merge.0) refl counts
 
 reply_taken : (c : Setting) (w : Scene) (k from : ℕ) (a : Act) (id : ReqId) (content : List Held) (s : NodeState) (turn : Move) (xs' : List (ReqId × OpenRead)) (o : Option OpenRead) → Explains c w → slice_get w.nodes k ≡ Some s → ReplyOk w from id content
     → open_at s.reads id ≡ o → Takes (HearsReply c id from content) id s.reads o turn xs' → Explains c (next w k a s (effects_of turn) (record s { reads = xs' }))

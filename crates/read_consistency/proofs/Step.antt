@@ -10,8 +10,8 @@ use Rattle.node_steps.specs.State.{NodeState, changes_of}
 use Rattle.node_steps.specs.Effects.{Effects}
 use Rattle.node_steps.specs.Acts.{Act, Deed}
 use Rattle.cluster_runs.specs.Trace.{Scene}
-use Rattle.cluster_runs.proofs.Lists.{get_set}
-use Rattle.change_laws.proofs.Members.{contains_cases, contains_there}
+use Rattle.cs_base.proofs.Slots.{get_set}
+use Rattle.cs_base.proofs.Members.{contains_cases, contains_there}
 use Rattle.read_consistency.specs.ReadRight.{IsRightEntry}
 use Rattle.read_consistency.proofs.Facts.{Reaches, BodyOk, NodeOk, EntryOk, Explains}
 use Rattle.read_consistency.proofs.Grows.{Grows, body_on, node_on, entry_on, IsNew, submission_kept, start_kept, began_kept}

@@ -16,8 +16,8 @@ use Rattle.cluster_runs.specs.Trace.{Scene, scene_of, MayTake, Move, Trace, IsFr
 use Rattle.cluster_runs.specs.Trace.Trace.{begun, moved, free}
 use Rattle.cluster_runs.specs.Trace.IsFree.{asked, time, turned}
 use Rattle.cluster_runs.proofs.Runs.{run_traced}
-use Rattle.cluster_runs.proofs.Lists.{some_one}
-use Rattle.change_laws.proofs.Members.{contains_nil}
+use Rattle.cs_base.proofs.Slots.{some_one}
+use Rattle.cs_base.proofs.Members.{contains_nil}
 use Rattle.read_consistency.specs.ReadRight.{ReadRight}
 use Rattle.read_consistency.proofs.Facts.{WasBegun, BodyIs, NodeOk, Explains}
 use Rattle.read_consistency.proofs.Step.{explains_entry}

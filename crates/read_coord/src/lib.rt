@@ -23,9 +23,6 @@ use statement_plan::Columns;
 use std::alloc::{AllocError, Global};
 use std::marker::Model;
 
-#[cfg(test)]
-mod tests;
-
 /// A read that its coordinator has not answered: its level, its query, the replicas that replied, and the merge of their
 /// replies.
 #[derive(Drop)]
@@ -145,21 +142,14 @@ impl ReadCoord {
     }
 
     /// Those heard of with one more, and the merge with its reply.
-    fn gather(
-        &self,
-        alloc: Global,
-        from: NodeId,
-        mut content: Content,
-    ) -> Result<Gathered, AllocError>
+    fn gather(&self, alloc: Global, from: NodeId, content: Content) -> Result<Gathered, AllocError>
         ensures { IfOk result (IsGathered self.now from content) }
     {
         let mut heard = copy_nodes(alloc, self.heard.as_slice())?;
         heard.push(from)?;
-        content.merge(&self.merged)?;
-        Ok(Gathered {
-            heard,
-            merged: content,
-        })
+        let before = self.merged.copy(alloc)?;
+        let merged = content.merge(alloc, before)?;
+        Ok(Gathered { heard, merged })
     }
 
     fn keep(&mut self, gathered: Gathered)

@@ -14,6 +14,9 @@ use body_notations::{
 use cs_base::{Bytes, Items};
 use std::alloc::{AllocError, Global};
 
+/// The length of a cell of 12 bytes, and they.
+const SHORT_CELL: usize = 4 + 12;
+
 /// The rows of a read, or of a refused condition.
 #[derive(Debug, Drop)]
 pub struct Rows {
@@ -41,6 +44,13 @@ pub(crate) fn read_rows(alloc: Global, bytes: &[u8]) -> Result<(Rows, &[u8]), Fa
     Ok((rows, rest))
 }
 
+/// Makes room for so many short cells.
+fn make_room(out: &mut Vec<u8>, cells: usize) -> Result<(), AllocError>
+    ensures { out.new.items ≡ out.old.items }
+{
+    out.reserve(cells.saturating_mul(SHORT_CELL))
+}
+
 #[tactic(auto, unfolding(crate::specs::Spelling::rows))]
 pub(crate) fn write_rows(out: &mut Vec<u8>, written: &Rows) -> Result<(), AllocError>
     requires { RowsFit written.now }
@@ -48,6 +58,7 @@ pub(crate) fn write_rows(out: &mut Vec<u8>, written: &Rows) -> Result<(), AllocE
 {
     write_metadata(out, &written.metadata)?;
     write_count(out, written.row_count as usize)?;
+    make_room(out, written.cells.as_slice().len())?;
     write_items(out, &written.cells)
 }
 

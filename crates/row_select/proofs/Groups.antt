@@ -5,16 +5,15 @@ use Rattle.std.specs.List.Sorted.{IsStrictlySortedBy}
 use Rattle.std.specs.Map.{keys_of}
 use Rattle.std.specs.Ordering.{nat_cmp}
 use Rattle.changes.specs.declared.Held.{Held}
+use Rattle.changes.specs.Order.{row_of}
+use Rattle.changes.specs.Places.{AreInOrder}
 use Rattle.changes.specs.declared.ShownCell.{ShownCell}
 use Rattle.changes.specs.declared.ShownRow.{ShownRow}
 use Rattle.row_select.specs.Rows.{is_sign_of_row, cell_of_held}
 
--- a column has one value among these changes
-abbrev pub AreSingle : List Held → Type 0
-AreSingle changes = (x y : Held) (column : ℕ) (v w : List ℕ) → Contains changes x → Contains changes y → cell_of_held x ≡ Some (column, v) → cell_of_held y ≡ Some (column, w) → v ≡ w
-
-abbrev pub AreSingleGroups : List (List ℕ × List Held) → Type 0
-AreSingleGroups groups = (g : List ℕ × List Held) → Contains groups g → AreSingle g.1
+-- each row has its own changes, in order
+abbrev pub AreRowGroups : List (List ℕ × List Held) → Type 0
+AreRowGroups groups = (g : List ℕ × List Held) → Contains groups g → AreInOrder g.1 × ((x : Held) → Contains g.1 x → row_of x.place ≡ Some g.0)
 
 abbrev pub pairs_of : List ShownCell → List (ℕ × List ℕ)
 pairs_of cells = map (λ c. (c.column, c.value)) cells

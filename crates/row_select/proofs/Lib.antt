@@ -1,5 +1,4 @@
-pub mod CellLaws
-pub mod Groups
-pub mod PageLaws
-pub mod RowLaws
-pub mod SelectLaws
+mod Groups
+mod PageLaws
+mod RowLaws
+mod SelectLaws

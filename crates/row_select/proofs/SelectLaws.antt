@@ -3,9 +3,9 @@ use Rattle.std.proofs.Common.{◌≡◌, ℕ, ◌⊎◌, ◌↔◌, inl, inr, Bo
 use Rattle.std.specs.List.{filter_map, list_any, AllByRecursion}
 use Rattle.std.specs.List.Sorted.{IsStrictlySortedBy}
 use Rattle.std.specs.Map.{keys_of}
-use Rattle.std.specs.Ordering.{nat_cmp, ordering_reverse}
+use Rattle.std.specs.Ordering.{nat_cmp}
 use Rattle.std.specs.declared.cmp.Ordering.TheVariants.{Less}
-use Rattle.std.proofs.lemmas.Bool.{cases_Bool, both_ways}
+use Rattle.std.proofs.lemmas.Bool.{cases_Bool, both_ways, or_cases, or_parts}
 use Rattle.std.proofs.lemmas.List.{length-reverse}
 use Rattle.std.proofs.lemmas.List.Elements.{All-from_recursion, All-contains}
 use Rattle.changes.specs.declared.Place.{Place}
@@ -14,17 +14,30 @@ use Rattle.changes.specs.declared.Held.{Held}
 use Rattle.changes.specs.declared.Query.{Query}
 use Rattle.changes.specs.declared.ShownRow.{ShownRow}
 use Rattle.changes.specs.declared.ShownCell.{ShownCell}
-use Rattle.changes.specs.Order.{rank_cmp, row_of, IsBetween}
+use Rattle.changes.specs.Order.{row_of, IsBetween}
 use Rattle.changes.specs.Contents.{AreApart}
 use Rattle.changes.specs.Shown.{IsTop, ShowsCell, ShowsRow, row_cmp, rows_of, columns_of, AreShownCells, AreShownRows, in_order, IsShown}
-use Rattle.change_laws.proofs.SignLaws.{cases_ordering}
-use Rattle.change_laws.proofs.OrderLaws.{rank_value, rank_total}
-use Rattle.change_laws.proofs.Members.{contains_nil, contains_here, contains_there, contains_cases, contains_filter_map, contains_from_filter_map, contains_map, contains_from_map}
-use Rattle.cell_merge.specs.Walks.{names_of, IsGroupOf, AreRowsBetween}
-use Rattle.cell_merge.proofs.StateLaws.{some_passes, none_passes}
+use Rattle.cs_base.proofs.Members.{contains_nil, contains_here, contains_there, contains_cases, contains_filter_map, contains_from_filter_map, contains_map, contains_from_map}
+use Rattle.cell_merge.specs.Walks.{names_of, IsGroupOf, AreRowsBetween, IsWalkOver}
 use Rattle.row_select.specs.Rows.{is_sign, is_sign_of_row, cell_of, cell_of_held, rows_with, IsPageOf}
-use Rattle.row_select.proofs.Groups.{AreSingleGroups, AreCellsOf, IsRowOf, pairs_of, names_with}
-use Rattle.row_select.proofs.RowLaws.{names_are, rows_are}
+use Rattle.row_select.proofs.Groups.{AreRowGroups, AreCellsOf, IsRowOf, pairs_of, names_with}
+use Rattle.row_select.proofs.RowLaws.{names_are, rows_are, rows_in_direction}
+
+-- an element that passes
+some_passes : {X : Type 0} (p : X → Bool) (xs : List X) → list_any p xs ≡ true → (x : X) × Contains xs x × (p x ≡ true)
+some_passes p [] h = cc
+some_passes {X} p (y ∷ ys) h =
+    elim (or_cases (p y) (list_any p ys) h) [
+      | inl t ↦ (y, contains_here y ys, t)
+      | inr rest ↦ let r : (x : X) × Contains ys x × (p x ≡ true) = some_passes p ys rest in (r.0, contains_there y ys r.0 r.1, r.2)
+    ]
+
+-- none passes
+none_passes : {X : Type 0} (p : X → Bool) (xs : List X) → list_any p xs ≡ false → (x : X) → Contains xs x → p x ≡ false
+none_passes p [] h x at = absurd (contains_nil x at)
+none_passes p (y ∷ ys) h x at =
+    let parts = or_parts (p y) (list_any p ys) h in
+    elim (contains_cases y ys x at) [ inl e ↦ sym (ap p e) ∙ parts.0 | inr rest ↦ none_passes p ys parts.1 x rest ]
 
 -- nothing outranks what is held
 pub held_is_top : (K : List Held) → AreApart K → (x : Held) → Contains K x → IsTop (Contains K) x
@@ -63,24 +76,10 @@ sign_tells_at (RowGone r) v row at h = cc
 sign_tells_at (RangeGone from upto) v row at h = cc
 sign_tells_at PartGone v row at h = cc
 
--- ---- in a content a column of a row has one value
+-- ---- each row has its own changes, in order
 
-apart_values : (K : List Held) → AreApart K → (x y : Held) → Contains K x → Contains K y → x.place ≡ y.place → x.value ≡ y.value
-apart_values K apart x y hx hy place =
-    elim (cases_ordering (rank_cmp x y)) [
-      | inl less ↦ absurd (apart y x hy hx (inl (sym place, rank_total.antisymm y x ∙ ap ordering_reverse less)))
-      | inr (inl equal) ↦ rank_value x y equal
-      | inr (inr greater) ↦ absurd (apart x y hx hy (inl (place, greater)))
-    ]
-
-single_groups : (q : Query) (K : List Held) (groups : List (List ℕ × List Held)) → AreApart K → AreRowsBetween q.from q.upto K groups → AreSingleGroups groups
-single_groups q K groups apart are g at x y column v w hx hy ex ey =
-    let of_g = (are.within g at).2 in
-    let px = (of_g x).0 hx in
-    let py = (of_g y).0 hy in
-    let tx = cell_tells x g.0 column v px.1 ex in
-    let ty = cell_tells y g.0 column w py.1 ey in
-    some_bytes (sym tx.1 ∙ apart_values K apart x y px.0 py.0 (tx.0 ∙ sym ty.0) ∙ ty.1)
+row_groups : (q : Query) (K : List Held) (groups : List (List ℕ × List Held)) → AreRowsBetween q.from q.upto K groups → AreRowGroups groups
+row_groups q K groups are g at = (are.ordered g at, λ x h. (((are.within g at).2 x).0 h).1)
 
 -- ---- the names
 
@@ -235,9 +234,11 @@ same_length : (reversed : Bool) (rows : List ShownRow) → length (in_order reve
 same_length false rows = refl
 same_length true rows = length-reverse rows
 
--- what a page of all these rows shows
-pub page_shown : (q : Query) (K : List Held) (groups : List (List ℕ × List Held)) (rows : List ShownRow) (more : Bool) → AreApart K → AreRowsBetween q.from q.upto K groups
-    → IsPageOf q.limit (in_order q.reversed (rows_with groups)) rows more → IsShown (Contains K) q rows more
-page_shown q K groups rows more apart are is =
+-- what a page of the rows of a walk shows
+pub page_shown : (q : Query) (K : List Held) (walk : List (List ℕ × List Held)) (rows : List ShownRow) (more : Bool) → AreApart K → IsWalkOver q.from q.upto K q.reversed walk
+    → IsPageOf q.limit (rows_with walk) rows more → IsShown (Contains K) q rows more
+page_shown q K walk rows more apart (groups, are, e) page =
     let all = rows_with groups in
-    (all, rows_shown q K groups all apart are (names_are groups) (rows_are groups (single_groups q K groups apart are)), is.0, is.1 ∙ ap (nat_lt q.limit) (same_length q.reversed all))
+    let is : IsPageOf q.limit (in_order q.reversed (rows_with groups)) rows more =
+    subst (λ (l : List ShownRow). IsPageOf q.limit l rows more) (ap rows_with e ∙ rows_in_direction q.reversed groups) page in
+    (all, rows_shown q K groups all apart are (names_are groups) (rows_are groups (row_groups q K groups are)), is.0, is.1 ∙ ap (nat_lt q.limit) (same_length q.reversed all))

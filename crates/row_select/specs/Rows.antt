@@ -1,8 +1,7 @@
 -- What the changes of a row show of it, and what the rows of a walk show up to a limit.
-use Rattle.std.specs.Prelude.{◌≡◌, ℕ, Bool, true, false, Option, Some, None, List, [], ◌∷◌, ◌++◌, map, length, take, nat_lt, if◌then◌else◌}
-use Rattle.std.specs.List.{list_any, fold}
-use Rattle.std.specs.BTreeMap.{insert_entry}
-use Rattle.std.specs.Ordering.{nat_cmp}
+use Rattle.std.specs.Prelude.{◌≡◌, ◌≤◌, ◌⊎◌, ℕ, Bool, true, false, Option, Some, None, List, [], ◌∷◌, ◌++◌, map, length, take, nat_lt, if◌then◌else◌}
+use Rattle.std.specs.List.{list_any, filter_map}
+use Rattle.std.specs.Option.{option_to_list}
 use Rattle.changes.specs.declared.Place.{Place}
 use Rattle.changes.specs.declared.Place.TheVariants.{Cell, Marker, RowGone, RangeGone, PartGone}
 use Rattle.changes.specs.declared.Held.{Held}
@@ -33,27 +32,20 @@ cell_of PartGone value = None
 abbrev pub cell_of_held : Held → Option (ℕ × List ℕ)
 cell_of_held x = cell_of x.place x.value
 
--- cells by column, with one more in its place; an earlier one of its column gives way
-abbrev pub put_cell : List (ℕ × List ℕ) → Option (ℕ × List ℕ) → List (ℕ × List ℕ)
-put_cell cells None = cells
-put_cell cells (Some c) = insert_entry nat_cmp cells c.0 c.1
-
-abbrev pub with_cell : List (ℕ × List ℕ) → Held → List (ℕ × List ℕ)
-with_cell cells x = put_cell cells (cell_of_held x)
-
--- the cells that these changes of a row show, by column
-abbrev pub cells_by_column : List Held → List (ℕ × List ℕ)
-cells_by_column changes = fold with_cell [] changes
-
 abbrev pub cell_made : ℕ × List ℕ → ShownCell
 cell_made c = record { column = c.0; value = c.1 }
 
-abbrev pub cells_made : List (ℕ × List ℕ) → List ShownCell
-cells_made cells = map cell_made cells
+-- the cell that a change of a row shows, if it shows one
+abbrev pub cell_list : Held → List ShownCell
+cell_list x = map cell_made (option_to_list (cell_of_held x))
+
+-- the cells that these changes of a row show
+abbrev pub cells_of : List Held → List ShownCell
+cells_of changes = map cell_made (filter_map cell_of_held changes)
 
 -- the row as these changes of it show it
 abbrev pub row_shown : List ℕ → List Held → ShownRow
-row_shown row changes = record { row = row; cells = cells_made (cells_by_column changes) }
+row_shown row changes = record { row = row; cells = cells_of changes }
 
 -- the row, if its changes show it
 abbrev pub row_if : List ℕ → List Held → List ShownRow
@@ -67,3 +59,8 @@ rows_with (g ∷ groups) = row_if g.0 g.1 ++ rows_with groups
 -- the first of all rows, up to the limit, and whether a further one follows
 abbrev pub IsPageOf : ℕ → List ShownRow → List ShownRow → Bool → Type 0
 IsPageOf limit all rows more = (rows ≡ take limit all) × (more ≡ nat_lt limit (length all))
+
+-- the walk went from the rows before to those after: nowhere, or to a row before which it shows no more than the limit
+abbrev pub StopsAt : ℕ → List (List ℕ × List Held) → List (List ℕ × List Held) → Type 0
+StopsAt limit before after =
+    (before ≡ after) ⊎ ((front : List (List ℕ × List Held)) × (last : List ℕ × List Held) × (before ≡ front ++ last ∷ after) × (length (rows_with front) ≤ limit))

@@ -7,4 +7,5 @@ mod select;
 #[cfg(test)]
 mod tests;
 
+pub use page::first_rows;
 pub use select::shown;

@@ -1,22 +1,20 @@
-//! The first rows that a walk shows, from its front or from its back.
+//! The first rows that a walk shows.
 
-ghost use Rattle.std.specs.Prelude.{◌≡◌, ◌≤◌, ◌++◌, false, List, [], IfOk, OnOk, OnErr, length, take, reverse, nat_lt};
-ghost use Rattle.changes.specs.Shown.{in_order};
-ghost use Rattle.cell_merge.specs.Rows.{shown_of};
-ghost use Rattle.row_select.specs.Rows.{row_if, rows_with, IsPageOf};
+ghost use Rattle.std.specs.Prelude.{◌≡◌, ◌≤◌, ◌++◌, false, [], IfOk, OnOk, OnErr, length, take, nat_lt};
+ghost use Rattle.row_select.specs.Rows.{row_if, rows_with, IsPageOf, StopsAt};
 
 use crate::rows::{has_sign, row_of};
-use changes::{Held, ShownRow};
-use cs_base::Bytes;
+use cell_merge::RowWalk;
+use changes::{Held, ShownRow, ShownRows};
+use cs_base::{Bytes, Items};
 use std::alloc::{AllocError, Global};
-use std::collections::btree_map::Range;
 
 /// The rows that are shown so far, up to a limit, and whether a further one was seen.
 #[derive(Drop)]
-pub(crate) struct Page {
-    pub(crate) rows: Vec<ShownRow>,
+struct Page {
+    rows: Vec<ShownRow>,
     limit: usize,
-    pub(crate) more: bool,
+    more: bool,
 }
 
 impl Page {
@@ -55,16 +53,13 @@ impl Page {
     }
 }
 
-/// The first rows of the walk that are shown, in its order.
-fn forwards(
-    alloc: Global,
-    walk: Range<'_, Bytes, Vec<Held>>,
-    limit: u32,
-) -> Result<Page, AllocError>
-    ensures { IfOk result (λ page. IsPageOf limit (rows_with (shown_of walk.entry)) page.rows.items page.more) }
+/// The first page of a walk, which goes no further than to the first shown row behind the limit.
+fn page_of(alloc: Global, walk: &mut RowWalk<'_>, limit: u32) -> Result<Page, AllocError>
+    ensures page { IfOk result (λ page. IsPageOf limit (rows_with walk.old) page.rows.items page.more) }
+    ensures no_further { StopsAt limit walk.old walk.new }
 {
     let mut page = Page::new(alloc, limit);
-    for (row, changes) in walk {
+    while let Some((row, changes)) = walk.next_row() {
         page.add(alloc, row, changes)?;
         if page.more {
             break;
@@ -73,36 +68,18 @@ fn forwards(
     Ok(page)
 }
 
-/// The last rows of the walk that are shown, from its end.
-fn backwards(
+/// The first rows that the walk shows, up to the limit, and whether a further one follows. It costs the changes of the rows
+/// walked: those that are given, the one that stops the walk, and the rows before it that have changes and show none.
+pub fn first_rows(
     alloc: Global,
-    walk: Range<'_, Bytes, Vec<Held>>,
+    walk: &mut RowWalk<'_>,
     limit: u32,
-) -> Result<Page, AllocError>
-    ensures { IfOk result (λ page. IsPageOf limit (reverse (rows_with (shown_of walk.entry))) page.rows.items page.more) }
-{
-    let mut page = Page::new(alloc, limit);
-    for (row, changes) in walk.rev() {
-        page.add(alloc, row, changes)?;
-        if page.more {
-            break;
-        }
-    }
-    Ok(page)
-}
+) -> Result<(ShownRows, bool), AllocError>
+    ensures page { IfOk result (λ page. IsPageOf limit (rows_with walk.old) page.0 page.1) }
 
-/// The first rows of the walk that are shown, in its order or in reverse.
-pub(crate) fn page_of(
-    alloc: Global,
-    walk: Range<'_, Bytes, Vec<Held>>,
-    reversed: bool,
-    limit: u32,
-) -> Result<Page, AllocError>
-    ensures { IfOk result (λ page. IsPageOf limit (in_order reversed (rows_with (shown_of walk.entry))) page.rows.items page.more) }
+    // Each row that is looked at has at most as many shown rows before it, also where memory fails.
+    ensures no_further { StopsAt limit walk.old walk.new }
 {
-    if reversed {
-        backwards(alloc, walk, limit)
-    } else {
-        forwards(alloc, walk, limit)
-    }
+    let page = page_of(alloc, walk, limit)?;
+    Ok((Items::from_vec(page.rows), page.more))
 }

@@ -1,14 +1,13 @@
 //! A row as it is shown, with its cells.
 
-ghost use Rattle.std.specs.Prelude.{◌≡◌, IfOk, OnOk};
+ghost use Rattle.std.specs.Prelude.{◌≡◌, ◌++◌, IfOk, OnOk};
 ghost use Rattle.std.specs.List.{list_any};
 ghost use Rattle.std.specs.Option.{option_map};
-ghost use Rattle.row_select.specs.Rows.{is_sign_of_row, cell_of_held, with_cell, cells_by_column, cells_made, row_shown};
+ghost use Rattle.row_select.specs.Rows.{is_sign_of_row, cell_of_held, cells_of as cells_shown_of, cell_list, row_shown};
 
 use changes::{Held, Place, ShownCell, ShownRow};
 use cs_base::{Bytes, Items};
 use std::alloc::{AllocError, Global};
-use std::collections::BTreeMap;
 
 /// Whether a row with this change is shown: a marker or a cell with a value.
 fn is_sign(held: &Held) -> bool
@@ -38,35 +37,25 @@ fn cell_shown(held: &Held) -> Option<(u8, &Bytes)>
     }
 }
 
-/// Puts in the cell that a change shows, if it shows one.
-fn add_cell(alloc: Global, cells: &mut BTreeMap<u8, Bytes>, held: &Held) -> Result<(), AllocError>
-    ensures { OnOk result (cells.new.entries ≡ with_cell cells.old.entries held.now) }
+/// Puts the cell that a change shows behind the others, if it shows one.
+fn add_cell(alloc: Global, cells: &mut Items<ShownCell>, held: &Held) -> Result<(), AllocError>
+    ensures { OnOk result (cells.new ≡ cells.old ++ cell_list held.now) }
 {
     let Some((column, value)) = cell_shown(held) else {
         return Ok(());
     };
-    cells.insert(column, value.copy(alloc)?)?;
+    let value = value.copy(alloc)?;
+    cells.push(ShownCell { column, value })?;
     Ok(())
 }
 
-/// The cells that the changes show, by column.
-fn cell_map(alloc: Global, changes: &[Held]) -> Result<BTreeMap<u8, Bytes>, AllocError>
-    ensures { IfOk result (λ cells. cells.entries ≡ cells_by_column changes.now) }
-{
-    let mut cells = BTreeMap::new(alloc);
-    for held in changes {
-        add_cell(alloc, &mut cells, held)?;
-    }
-    Ok(cells)
-}
-
-/// The cells of a map, in its order.
-fn list_cells(alloc: Global, map: BTreeMap<u8, Bytes>) -> Result<Items<ShownCell>, AllocError>
-    ensures { IfOk result (λ cells. cells ≡ cells_made map.entries) }
+/// The cells that the changes of a row show, which are in order of columns as the changes are.
+fn cells_of(alloc: Global, changes: &[Held]) -> Result<Items<ShownCell>, AllocError>
+    ensures { IfOk result (λ cells. cells ≡ cells_shown_of changes.now) }
 {
     let mut cells = Items::new(alloc);
-    for (column, value) in map {
-        cells.push(ShownCell { column, value })?;
+    for held in changes {
+        add_cell(alloc, &mut cells, held)?;
     }
     Ok(cells)
 }
@@ -75,7 +64,7 @@ fn list_cells(alloc: Global, map: BTreeMap<u8, Bytes>) -> Result<Items<ShownCell
 pub(crate) fn row_of(alloc: Global, row: &Bytes, changes: &[Held]) -> Result<ShownRow, AllocError>
     ensures { IfOk result (λ shown. shown ≡ row_shown row.now changes.now) }
 {
-    let cells = list_cells(alloc, cell_map(alloc, changes)?)?;
+    let cells = cells_of(alloc, changes)?;
     Ok(ShownRow {
         row: row.copy(alloc)?,
         cells,

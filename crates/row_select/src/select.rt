@@ -3,16 +3,14 @@
 ghost use Rattle.std.specs.Prelude.{IfOk, Contains};
 ghost use Rattle.changes.specs.Shown.{IsShown};
 
-use crate::page::page_of;
+use crate::page::first_rows;
 use cell_merge::Content;
 use changes::{Query, ShownRows};
-use cs_base::Items;
 use std::alloc::{AllocError, Global};
 
 /// The rows that the query shows of the content, in its order and up to its limit, and whether a further one follows, after
-/// the CQL reference (SELECT: ORDER BY, LIMIT). The walk starts at the bound that the order begins with, and stops at the
-/// first shown row beyond the limit. It costs the logarithm of the rows held, and the changes of the rows walked: those that
-/// are given, the one that stops the walk, and the rows before it that have changes and show none.
+/// the CQL reference (SELECT: ORDER BY, LIMIT). The walk starts at the bound that the order begins with, found by binary
+/// search; `first_rows` says how far it goes.
 pub fn shown(
     alloc: Global,
     content: &Content,
@@ -20,7 +18,7 @@ pub fn shown(
 ) -> Result<(ShownRows, bool), AllocError>
     ensures { IfOk result (λ page. IsShown (Contains content.now) query.now page.0 page.1) }
 {
-    let walk = content.rows(alloc, &query.from, &query.upto)?;
-    let page = page_of(alloc, walk, query.reversed, query.limit)?;
-    Ok((Items::from_vec(page.rows), page.more))
+    let mut walk = content.rows(&query.from, &query.upto, query.reversed);
+    let page = first_rows(alloc, &mut walk, query.limit)?;
+    Ok(page)
 }

@@ -1,9 +1,9 @@
 //! Contents of a few rows, and what queries show of them.
 
-use crate::shown;
+use crate::{first_rows, shown};
 use cell_merge::Content;
 use changes::{Bound, Held, Partition, Place, Query, ShownRow};
-use cs_base::{Bytes, Items, Micros, NodeId, ReqId};
+use cs_base::{Bytes, Micros, NodeId, ReqId};
 use std::alloc::{AllocError, Global};
 use std::test::Fail;
 
@@ -31,9 +31,9 @@ fn held(place: Place, value: Option<Bytes>, timestamp: i64) -> Held {
     }
 }
 
-fn apply(
+fn put(
     alloc: Global,
-    content: &mut Content,
+    changes: &mut Vec<Held>,
     place: Place,
     value: Option<&str>,
     timestamp: i64,
@@ -42,9 +42,8 @@ fn apply(
         Some(text) => Some(bytes(alloc, text)?),
         None => None,
     };
-    let mut changes = Items::new(alloc);
     changes.push(held(place, value, timestamp))?;
-    content.apply(&changes)
+    Ok(())
 }
 
 fn cell(alloc: Global, row: &str, column: u8) -> Result<Place, AllocError> {
@@ -55,26 +54,26 @@ fn cell(alloc: Global, row: &str, column: u8) -> Result<Place, AllocError> {
 /// cell before; f is deleted, and has a cell since; those from g to h are deleted, and have a cell before in g and one
 /// since in h; i has a deleted cell and another one.
 fn worked(alloc: Global) -> Result<Content, AllocError> {
-    let mut content = Content::new(alloc);
-    let rows = &mut content;
-    apply(alloc, rows, cell(alloc, "a", 4)?, Some("y"), 1)?;
-    apply(alloc, rows, cell(alloc, "a", 3)?, Some("x"), 1)?;
-    apply(alloc, rows, cell(alloc, "b", 3)?, Some("x"), 1)?;
-    apply(alloc, rows, cell(alloc, "b", 3)?, None, 2)?;
-    apply(alloc, rows, Place::Marker(bytes(alloc, "b")?), Some(""), 1)?;
-    apply(alloc, rows, Place::Marker(bytes(alloc, "c")?), Some(""), 1)?;
-    apply(alloc, rows, cell(alloc, "d", 3)?, None, 1)?;
-    apply(alloc, rows, cell(alloc, "e", 3)?, Some("x"), 1)?;
-    apply(alloc, rows, Place::RowGone(bytes(alloc, "e")?), None, 2)?;
-    apply(alloc, rows, Place::RowGone(bytes(alloc, "f")?), None, 2)?;
-    apply(alloc, rows, cell(alloc, "f", 3)?, Some("z"), 3)?;
-    apply(alloc, rows, cell(alloc, "g", 3)?, Some("x"), 1)?;
-    apply(alloc, rows, cell(alloc, "h", 3)?, Some(""), 9)?;
+    let mut changes = Vec::new(alloc);
+    let rows = &mut changes;
+    put(alloc, rows, cell(alloc, "a", 4)?, Some("y"), 1)?;
+    put(alloc, rows, cell(alloc, "a", 3)?, Some("x"), 1)?;
+    put(alloc, rows, cell(alloc, "b", 3)?, Some("x"), 1)?;
+    put(alloc, rows, cell(alloc, "b", 3)?, None, 2)?;
+    put(alloc, rows, Place::Marker(bytes(alloc, "b")?), Some(""), 1)?;
+    put(alloc, rows, Place::Marker(bytes(alloc, "c")?), Some(""), 1)?;
+    put(alloc, rows, cell(alloc, "d", 3)?, None, 1)?;
+    put(alloc, rows, cell(alloc, "e", 3)?, Some("x"), 1)?;
+    put(alloc, rows, Place::RowGone(bytes(alloc, "e")?), None, 2)?;
+    put(alloc, rows, Place::RowGone(bytes(alloc, "f")?), None, 2)?;
+    put(alloc, rows, cell(alloc, "f", 3)?, Some("z"), 3)?;
+    put(alloc, rows, cell(alloc, "g", 3)?, Some("x"), 1)?;
+    put(alloc, rows, cell(alloc, "h", 3)?, Some(""), 9)?;
     let gone = Place::RangeGone(bound(alloc, "g", false)?, bound(alloc, "h", true)?);
-    apply(alloc, rows, gone, None, 5)?;
-    apply(alloc, rows, cell(alloc, "i", 3)?, None, 2)?;
-    apply(alloc, rows, cell(alloc, "i", 5)?, Some("u"), 2)?;
-    Ok(content)
+    put(alloc, rows, gone, None, 5)?;
+    put(alloc, rows, cell(alloc, "i", 3)?, None, 2)?;
+    put(alloc, rows, cell(alloc, "i", 5)?, Some("u"), 2)?;
+    Content::from_changes(alloc, changes)
 }
 
 fn push_bytes(text: &mut String, bytes: &Bytes) -> Result<(), AllocError> {
@@ -216,5 +215,66 @@ fn an_empty_content_shows_no_row(rt: HostRuntime) -> Result<(), Fail> {
     let content = Content::new(alloc);
     assert_eq!(rt; read_all(alloc, &content, false, 0)?.as_str(), "");
     assert_eq!(rt; read_all(alloc, &content, true, 3)?.as_str(), "");
+    Ok(())
+}
+
+#[test]
+fn a_walk_stops_behind_the_limit(rt: HostRuntime) -> Result<(), Fail> {
+    let alloc = rt.alloc();
+    let content = worked(alloc)?;
+    let from = bound(alloc, "", false)?;
+    let upto = bound(alloc, "", true)?;
+    let mut walk = content.rows(&from, &upto, false);
+    let (rows, more) = first_rows(alloc, &mut walk, 3)?;
+    assert_eq!(rt; rows.as_slice().len(), 3);
+    assert!(rt; more);
+    assert!(rt; walk.next_row().is_some());
+    assert!(rt; walk.next_row().is_some());
+    assert!(rt; walk.next_row().is_none());
+    Ok(())
+}
+
+/// What a node holds: all rows, nothing, or the deletion of the rows from c to f, which covers what c has.
+fn held_by(alloc: Global, node: u8) -> Result<Content, AllocError> {
+    let mut changes = Vec::new(alloc);
+    match node {
+        b'a' => return worked(alloc),
+        b'g' => {
+            let rows = Place::RangeGone(bound(alloc, "c", false)?, bound(alloc, "f", true)?);
+            put(alloc, &mut changes, rows, None, 2)?;
+        }
+        _ => {}
+    }
+    Content::from_changes(alloc, changes)
+}
+
+/// What the replies of some nodes show, each the slice of what its node holds.
+fn read_of_replies(alloc: Global, nodes: &str, query: &Query) -> Result<String, AllocError> {
+    let mut content = Content::new(alloc);
+    for node in nodes.bytes() {
+        let slice = held_by(alloc, node)?.slice(alloc, &query.from, &query.upto)?;
+        content = content.merge(alloc, slice)?;
+    }
+    read(alloc, &content, query)
+}
+
+#[test]
+fn wide_and_empty_replies_show_one_thing(rt: HostRuntime) -> Result<(), Fail> {
+    let alloc = rt.alloc();
+    let cases = [
+        ("", "", "a:3=x,4=y, b: f:3=z, h:3=, i:5=u, "),
+        ("b", "f", "b: f:3=z, "),
+        ("c", "e", ""),
+        ("h", "a", ""),
+    ];
+    for (from, upto, expected) in cases {
+        let from = bound(alloc, from, false)?;
+        let upto = bound(alloc, upto, true)?;
+        let asked = query(alloc, from, upto, false, 9)?;
+        for nodes in ["ang", "nga", "gan"] {
+            let text = read_of_replies(alloc, nodes, &asked)?;
+            assert_eq!(rt; text.as_str(), expected);
+        }
+    }
     Ok(())
 }

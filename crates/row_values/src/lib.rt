@@ -12,8 +12,6 @@ mod laws;
 mod others;
 mod print;
 mod row;
-#[cfg(test)]
-mod tests;
 
 pub use laws::{
     clustering_values_come_back, each_column_has_a_value, keys_come_back, values_are_determined,

@@ -14,8 +14,6 @@ mod outline;
 mod replication;
 mod schema;
 mod table;
-#[cfg(test)]
-mod tests;
 
 pub use column_defs::ColumnDefs;
 pub use error::{Fault, Refused, SchemaError};

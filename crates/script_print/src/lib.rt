@@ -5,8 +5,6 @@ mod events;
 mod head;
 mod laws;
 mod printer;
-#[cfg(test)]
-mod tests;
 mod words;
 
 pub use laws::reading_undoes_printing;

@@ -6,7 +6,7 @@ use Rattle.cql_statement.specs.declared.modification.Modification.TheVariants as
 use Rattle.cql_statement.specs.declared.statement.Statement.{Statement}
 use Rattle.cql_statement.specs.declared.statement.Statement.TheVariants as statement
 use Rattle.mutation_drafts.specs.Kept.{IsKept}
-use Rattle.mutation_drafts.specs.Lengths.{is_long_mutation}
+use Rattle.mutation_drafts.specs.Counted.{is_long_mutation}
 use Rattle.schema_book.specs.Books.{Book, keyspace_at}
 use Rattle.schema_book.specs.declared.table.Keyspace.{Keyspace}
 use Rattle.statement_plan.specs.declared.fault.Fault.{Fault}

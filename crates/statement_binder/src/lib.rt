@@ -7,8 +7,6 @@ mod drafts;
 mod error;
 mod piece;
 mod reads;
-#[cfg(test)]
-mod tests;
 mod writes;
 
 pub use binder::bind;

@@ -4,8 +4,6 @@
 mod params;
 mod supplied;
 mod supplier;
-#[cfg(test)]
-mod tests;
 
 pub use params::{Param, ParamList, Params};
 pub use supplied::Supplied;

@@ -11,7 +11,7 @@ ghost use Rattle.peer_messages.specs.declared.message.Body.TheVariants.{Write};
 ghost use Rattle.node_steps.specs.Effects.{outbound, send_to};
 ghost use Rattle.node_steps.specs.Writes.{start_write, started_write, CountsAck, HearsAck, write_at};
 
-use changes::{DraftMutation, Partition};
+use changes::{DraftMutation, Mutation, Partition};
 use cs_base::{Items, Level, Micros, NodeId, ReqId};
 use peer_messages::{
     Body, Entry, Move, NodeIds, Outbound, Refusal, Sends, Setting, copy_nodes, heard_of,
@@ -19,9 +19,6 @@ use peer_messages::{
 };
 use std::alloc::{AllocError, Global};
 use std::marker::Model;
-
-#[cfg(test)]
-mod tests;
 
 /// A write that its coordinator has not answered: its level, its partition, and the replicas that acknowledged it.
 #[derive(Drop)]
@@ -42,32 +39,30 @@ impl Model for WriteCoord {
 fn write_to(
     alloc: Global,
     request: ReqId,
-    draft: &DraftMutation,
+    mutation: &Mutation,
     node: NodeId,
 ) -> Result<Outbound, AllocError>
-    requires { request.time < 2 ^ 63 }
-    ensures { IfOk result (λ sent. sent ≡ outbound request (Write (mutation_of request draft.now)) node) }
+    ensures { IfOk result (λ sent. sent ≡ outbound request (Write mutation.now) node) }
 {
     Ok(Outbound {
         upto: node,
         born: request.time,
         request,
-        body: Body::Write(draft.mutation(alloc, request)?),
+        body: Body::Write(mutation.copy(alloc)?),
     })
 }
 
 fn write_to_all(
     alloc: Global,
     request: ReqId,
-    draft: &DraftMutation,
+    mutation: &Mutation,
     nodes: &[NodeId],
 ) -> Result<Sends, AllocError>
-    requires { request.time < 2 ^ 63 }
-    ensures { IfOk result (λ sends. sends ≡ send_to request (Write (mutation_of request draft.now)) nodes.now) }
+    ensures { IfOk result (λ sends. sends ≡ send_to request (Write mutation.now) nodes.now) }
 {
     let mut sends = Items::new(alloc);
     for node in nodes {
-        sends.push(write_to(alloc, request, draft, *node)?)?;
+        sends.push(write_to(alloc, request, mutation, *node)?)?;
     }
     Ok(sends)
 }
@@ -85,10 +80,11 @@ pub fn opening(
 {
     let replicas = setting.replicas(&draft.partition);
     let alive = nodes_up(alloc, replicas.as_slice(), down)?;
+    let mutation = draft.mutation(alloc, request)?;
     let mut entries = Items::new(alloc);
-    entries.push(Entry::Submitted(request, draft.mutation(alloc, request)?))?;
+    entries.push(Entry::Submitted(request, mutation.copy(alloc)?))?;
     Ok(Move {
-        sends: write_to_all(alloc, request, draft, alive.as_slice())?,
+        sends: write_to_all(alloc, request, &mutation, alive.as_slice())?,
         entries,
         ended: false,
     })

@@ -1,5 +1,5 @@
 use Rattle.change_laws.specs.Kept.{In}
-use Rattle.change_laws.proofs.ContentLaws.{merge_of_both, merge_commutes, merge_repeats, merge_associates}
+use Rattle.change_laws.proofs.Contents.{merge_of_both, merge_commutes, merge_repeats, merge_associates}
 use Rattle.change_laws.proofs.merging_is_free_of_order.Goals as goal
 
 pub returns : goal.returns

@@ -1,4 +1,4 @@
-use Rattle.change_laws.proofs.OrderLaws.{Outranks_irrefl, Outranks_trans}
+use Rattle.change_laws.proofs.Outranking.{Outranks_irrefl, Outranks_trans}
 use Rattle.change_laws.proofs.outranking_is_strict.Goals as goal
 
 pub returns : goal.returns

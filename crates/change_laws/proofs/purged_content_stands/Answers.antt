@@ -1,5 +1,5 @@
 use Rattle.change_laws.specs.Kept.{In}
-use Rattle.change_laws.proofs.StandsLaws.{content_stands, stands_for_same, stands_for_onto, stands_for_merge, stands_for_slice, stands_for_purged}
+use Rattle.change_laws.proofs.Purges.{content_stands, stands_for_same, stands_for_onto, stands_for_merge, stands_for_slice, stands_for_purged}
 use Rattle.change_laws.proofs.purged_content_stands.Goals as goal
 
 pub returns : goal.returns

@@ -2,4 +2,4 @@ use Rattle.std.proofs.Common.{◌≡◌, take}
 use Rattle.changes.proofs.copies.copy_helds.Given as goal
 
 abbrev pub invariant-loop-held : goal.invariant-loop-held
-invariant-loop-held l = l.copy ≡ take l.held-index l.helds
+invariant-loop-held l = l.copy.items ≡ take l.held-index l.helds

@@ -4,7 +4,7 @@ use Rattle.std.proofs.lemmas.Bool.{ltb-true}
 use Rattle.std.proofs.lemmas.Option.{slice_get-get_or}
 use Rattle.node_steps.specs.Steps.{risen_time, end_of_time}
 use Rattle.node_core.specs.Sites.{Site}
-use Rattle.cluster_runs.proofs.Lists.{set_same}
+use Rattle.cs_base.proofs.Slots.{set_same}
 use Rattle.cluster_model.specs.Takes.{event_of}
 use Rattle.cluster_model.proofs.parts.step_node.Goals as goal
 

@@ -7,4 +7,4 @@ use Rattle.cql_values.proofs.reading.text.Goals as goal
 
 pub unreachable-requires : goal.unreachable-requires
 unreachable-requires c =
-    false≢true (c.in-Err.ensures.succeeds (subst IsUtf8 (sym c.into_vec.ensures) (text_utf8 c.args.ty c.in_ok-content.content c.requires c.in_ok-content.ensures.1.0)))
+    false≢true (c.in-Err.ensures.succeeds (subst IsUtf8 (sym c.in_ok-bytes.ensures) (text_utf8 c.args.ty c.in_ok-content.content c.requires c.in_ok-content.ensures.1.0)))

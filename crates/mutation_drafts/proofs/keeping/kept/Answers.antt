@@ -1,17 +1,10 @@
-use Rattle.std.proofs.Common.{rules, ◌∙◌, subst, List}
-use Rattle.std.specs.List.Sorted.{IsPermutation}
-use Rattle.std.specs.Ordering.{is_eq, is_lt}
-use Rattle.std.proofs.lemmas.Fn.{dedup_same}
-use Rattle.std.proofs.lemmas.List.Sorted.{answers_always, ranks_by}
+use Rattle.std.proofs.Common.{List, subst}
+use Rattle.std.specs.List.Sorted.{IsStrictlySortedBy}
 use Rattle.changes.specs.declared.Draft.{Draft}
-use Rattle.mutation_drafts.specs.Places.{draft_order}
-use Rattle.mutation_drafts.specs.Sorting.{sorting_cmp}
-use Rattle.mutation_drafts.proofs.KeptLaws.{kept_is, sorting_total}
+use Rattle.mutation_drafts.specs.Kept.{draft_order}
+use Rattle.mutation_drafts.proofs.KeptLaws.{ordered_is_kept}
 use Rattle.mutation_drafts.proofs.keeping.kept.Goals as goal
 
-pub returns : goal.returns
-returns c =
-    let up = c.sort_unstable_by.ensures.sorted (λ x y. is_lt (sorting_cmp x y)) (ranks_by sorting_total (λ (d : Draft). d)) (answers_always _ _ _ (λ f a r g h. search rules)) in
-    let firsts = dedup_same _ (λ x y. is_eq (draft_order x y)) _ (λ x y b f x' y' h. search rules) _ _ c.dedup_by.ensures.filtered in
-    let moved = subst (λ (l : List Draft). IsPermutation l c.sort_unstable_by.new.self.items) c.into_vec-drafts.ensures c.sort_unstable_by.ensures.permutation in
-    kept_is c.args.drafts c.sort_unstable_by.new.self.items c.from_vec.result moved up (c.from_vec.ensures ∙ firsts)
+pub returns-then-are_in_order : goal.returns-then-are_in_order
+returns-then-are_in_order c =
+    ordered_is_kept c.args.drafts (subst (λ (l : List Draft). IsStrictlySortedBy draft_order l) c.as_slice.ensures (c.are_in_order.ensures.0 c.if-are_in_order.true))

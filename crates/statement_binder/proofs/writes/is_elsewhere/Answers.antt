@@ -24,14 +24,14 @@ nat_same x y = go (nat_lt x y) (x == y) refl refl
     go false true e f = refl
     go false false e f = refl
 
-same_fields : (a b : Partition) → is_eq (partition_cmp a b) ≡ (a.table == b.table && (int_eq a.token b.token && bytes_eq a.key b.key))
+same_fields : (a b : Partition) → is_eq (partition_cmp a b) ≡ (int_eq a.token b.token && (a.table == b.table && bytes_eq a.key b.key))
 same_fields a b =
-    let rest = ordering_then (int_cmp a.token b.token) (slice_cmp nat_cmp a.key b.key) in
-    then_both (nat_cmp a.table b.table) rest
-    ∙ (ap (λ (t : Bool). t && is_eq rest) (nat_same a.table b.table)
-    ∙ ap (λ (t : Bool). (a.table == b.table) && t)
-    (then_both (int_cmp a.token b.token) (slice_cmp nat_cmp a.key b.key)
-    ∙ ap (λ (t : Bool). int_eq a.token b.token && t) (is_eq-slice_cmp a.key b.key)))
+    let rest = ordering_then (nat_cmp a.table b.table) (slice_cmp nat_cmp a.key b.key) in
+    then_both (int_cmp a.token b.token) rest
+    ∙ ap (λ (t : Bool). int_eq a.token b.token && t)
+    (then_both (nat_cmp a.table b.table) (slice_cmp nat_cmp a.key b.key)
+    ∙ (ap (λ (t : Bool). t && is_eq (slice_cmp nat_cmp a.key b.key)) (nat_same a.table b.table)
+    ∙ ap (λ (t : Bool). (a.table == b.table) && t) (is_eq-slice_cmp a.key b.key)))
 
 pub returns : goal.returns
 returns c = c.ne.ensures ∙ sym (ap not (same_fields c.args.partition.now c.args.piece.now.partition))

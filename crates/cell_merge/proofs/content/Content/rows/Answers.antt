@@ -1,16 +1,23 @@
-use Rattle.std.proofs.Common.{subst, sym, List, ℕ, Vec, Global}
+use Rattle.std.proofs.Common.{sym, subst, List, filter, ◌∙◌, ap}
 use Rattle.changes.specs.declared.Held.{Held}
 use Rattle.changes.specs.Contents.{AreApart}
-use Rattle.cell_merge.specs.Rows.{shown_of}
-use Rattle.cell_merge.specs.Walks.{AreRowsBetween}
-use Rattle.cell_merge.proofs.KeptLaws.{walk_law, between_of, list_apart}
+use Rattle.cell_merge.specs.Walks.{AreOfRows, IsWalkOver, by_rows, in_direction}
+use Rattle.cell_merge.proofs.SliceLaws.{is_between}
+use Rattle.cell_merge.proofs.WalkLaws.{between_of_rows, rows_are_between}
 use Rattle.cell_merge.proofs.content.Content.rows.Goals as goal
+
+pub new-requires : goal.new-requires
+new-requires c =
+    subst AreOfRows (sym c.rows_between.ensures)
+    (subst (λ (l : List Held). AreOfRows (filter (is_between c.args.from.now c.args.upto.now) l)) (sym c.deref.ensures.value) (between_of_rows c.args.from.now c.args.upto.now c.self.inside.changes.items c.self.invariant.ordered))
 
 pub returns-clause-rows : goal.returns-clause-rows
 returns-clause-rows c =
-    subst (λ (l : List (List ℕ × Vec Held Global)). AreRowsBetween c.args.from.now c.args.upto.now c.args.self.now (shown_of l)) (sym c.in_ok-walk.ensures)
-    (subst (λ (l : List Held). AreRowsBetween c.args.from.now c.args.upto.now l (shown_of (between_of c.args.from.now c.args.upto.now c.self.inside.rows.entries))) c.self.view_is
-    (walk_law c.args.from.now c.args.upto.now c.self.inside.rows c.self.inside.deletions.items c.self.invariant))
+    subst (λ (l : List Held). IsWalkOver c.args.from.now c.args.upto.now l c.args.reversed c.new.result) c.self.view_is (
+      by_rows (filter (is_between c.args.from.now c.args.upto.now) c.self.inside.changes.items),
+      rows_are_between c.args.from.now c.args.upto.now c.self.inside.changes.items c.self.invariant.ordered,
+      c.new.ensures ∙ ap (λ (l : List Held). in_direction c.args.reversed (by_rows l)) (c.rows_between.ensures ∙ ap (λ (l : List Held). filter (is_between c.args.from.now c.args.upto.now) l) c.deref.ensures.value),
+    )
 
 pub returns-clause-apart : goal.returns-clause-apart
-returns-clause-apart c = subst AreApart c.self.view_is (list_apart c.self.inside.rows c.self.inside.deletions.items c.self.invariant)
+returns-clause-apart c = subst AreApart c.self.view_is c.self.invariant.apart

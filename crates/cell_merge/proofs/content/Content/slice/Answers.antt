@@ -1,26 +1,22 @@
-use Rattle.std.proofs.Common.{◌∙◌, ap, sym, subst, List, ℕ, Vec, Global, filter, ◌++◌}
-use Rattle.std.specs.Map.{keys_of}
-use Rattle.std.specs.List.Sorted.{IsStrictlySortedBy}
+use Rattle.std.proofs.Common.{sym, subst, List, ◌∙◌, ◌++◌, ap}
 use Rattle.changes.specs.declared.Held.{Held}
+use Rattle.changes.specs.Places.{AreInOrder, stored_cmp}
 use Rattle.changes.specs.Queries.{IsSlice}
-use Rattle.cell_merge.specs.Tests.{meets_by}
-use Rattle.cell_merge.specs.Rows.{bytes_cmp, shown_of, listed}
-use Rattle.cell_merge.proofs.KeptLaws.{between_sorted, slice_kept, slice_law}
+use Rattle.cell_merge.proofs.InOrder.{sorted_back}
+use Rattle.cell_merge.proofs.SliceLaws.{part_slice, part_settled}
 use Rattle.cell_merge.proofs.content.Content.slice.Goals as goal
 
-pub copy_rows-requires : goal.copy_rows-requires
-copy_rows-requires c =
-    subst (λ (l : List (List ℕ × Vec Held Global)). IsStrictlySortedBy bytes_cmp (keys_of l)) (sym c.in_ok-rows_between.ensures) (between_sorted c.args.from.now c.args.upto.now c.self.inside.rows c.self.invariant.sorted)
+pub rows_between-requires : goal.rows_between-requires
+rows_between-requires c =
+    sorted_back stored_cmp c.split_rows.result.0.now c.split_rows.result.1.now (subst AreInOrder (sym (c.split_rows.ensures.whole ∙ c.deref.ensures.value)) c.self.invariant.ordered)
 
 pub invariant_of-result : goal.invariant_of-result
 invariant_of-result c =
-    slice_kept c.args.from.now c.args.upto.now c.self.inside.rows c.in_ok-rows.rows c.self.inside.deletions.items c.in_ok-deletions.deletions.items c.self.invariant
-    (c.in_ok-rows.ensures ∙ ap shown_of c.in_ok-rows_between.ensures)
-    (c.in_ok-deletions.ensures ∙ ap (λ (l : List Held). filter (λ x. meets_by c.args.from.now c.args.upto.now x.place) l) c.deref.ensures.value) c.stay_ordered.ensures
+    part_settled c.args.from.now c.args.upto.now c.self.inside.changes.items c.split_rows.result.0.now c.split_rows.result.1.now c.in_ok-changes.changes.items (c.split_rows.ensures.whole ∙ c.deref.ensures.value) c.split_rows.ensures.rows c.in_ok-changes.ensures
+    c.copy_onto.new.copies.items (c.in_ok-copy_onto.ensures ∙ ap (λ (l : List Held). c.in_ok-changes.changes.items ++ l) c.rows_between.ensures) c.self.invariant
 
 pub returns : goal.returns
 returns c =
-    subst (λ (l : List Held). IsSlice c.args.from.now c.args.upto.now l (c.in_ok-deletions.deletions.items ++ listed c.in_ok-rows.rows.entries)) c.self.view_is
-    (slice_law c.args.from.now c.args.upto.now c.self.inside.rows c.in_ok-rows.rows c.self.inside.deletions.items c.in_ok-deletions.deletions.items c.self.invariant
-    (c.in_ok-rows.ensures ∙ ap shown_of c.in_ok-rows_between.ensures)
-    (c.in_ok-deletions.ensures ∙ ap (λ (l : List Held). filter (λ x. meets_by c.args.from.now c.args.upto.now x.place) l) c.deref.ensures.value) c.stay_ordered.ensures)
+    subst (λ (l : List Held). IsSlice c.args.from.now c.args.upto.now l c.copy_onto.new.copies.items) c.self.view_is
+    (part_slice c.args.from.now c.args.upto.now c.self.inside.changes.items c.split_rows.result.0.now c.split_rows.result.1.now c.in_ok-changes.changes.items (c.split_rows.ensures.whole ∙ c.deref.ensures.value) c.split_rows.ensures.rows c.in_ok-changes.ensures
+    c.copy_onto.new.copies.items (c.in_ok-copy_onto.ensures ∙ ap (λ (l : List Held). c.in_ok-changes.changes.items ++ l) c.rows_between.ensures))

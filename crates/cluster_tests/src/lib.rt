@@ -1,0 +1,15 @@
+//! Tests of nodes and of what they tell, which need only the public side of the crates.
+#![tactic(auto)]
+
+#[cfg(test)]
+mod clusters;
+#[cfg(test)]
+mod messages;
+#[cfg(test)]
+mod nodes;
+#[cfg(test)]
+mod printing;
+#[cfg(test)]
+mod reads;
+#[cfg(test)]
+mod writes;

@@ -1,0 +1,13 @@
+mod SpotLemmas
+mod SlotLemmas
+mod OrderLemmas
+mod PutLemmas
+mod ReachLemmas
+mod RowLemmas
+mod ContentLemmas
+mod ClearLemmas
+mod OwnLemmas
+mod MemoryLemmas
+mod ReadLemmas
+mod ToldLemmas
+mod PartLemmas

@@ -1,0 +1,13 @@
+use Rattle.partition_content.proofs.ReadLemmas.{copies_start, copies_more, copies_end}
+use Rattle.partition_content.proofs.reading.copy_met.Goals as goal
+
+pub loop-slot-init : goal.loop-slot-init
+loop-slot-init c = copies_start c.args.onto.now.items c.args.walk c.into_iter-slot-iterator.result c.args.from.now c.args.upto.now c.into_iter-slot-iterator.ensures.into_iter_gives
+
+pub loop-slot-preserved : goal.loop-slot-preserved
+loop-slot-preserved c =
+    copies_more c.args.onto.now.items c.loop-slot.onto.items c.copy_if_met.new.onto.items c.args.walk c.loop-slot.slot-iterator c.next.new.self c.in-Some.field-0-0.now c.in-Some.slot.now c.args.from.now c.args.upto.now
+    c.in-Some.ensures.steps c.loop-slot.invariant c.in_ok-copy_if_met.ensures
+
+pub returns : goal.returns
+returns c = copies_end c.args.onto.now.items c.loop-slot.onto.items c.args.walk c.loop-slot.slot-iterator c.args.from.now c.args.upto.now c.in-None.ensures.steps.0 c.loop-slot.invariant

@@ -1,0 +1,6 @@
+use Rattle.partition_content.proofs.ReadLemmas.{Copies}
+use Rattle.partition_content.proofs.reading.copy_met.Given as goal
+
+-- what is copied so far, and what is to come
+abbrev pub invariant-loop-slot : goal.invariant-loop-slot
+invariant-loop-slot l = Copies l.fn.onto.items l.onto.items l.fn.walk l.slot-iterator l.from l.upto

@@ -1,0 +1,33 @@
+use Rattle.std.proofs.Common.{◌≡◌, ◌∙◌, ap, rules}
+use Rattle.std.specs.BTreeMap.Range.{entries_between}
+use Rattle.std.specs.declared.ops.Bound.TheVariants.{Excluded, Unbounded}
+use Rattle.partition_content.specs.declared.spots.Spot.{Spot}
+use Rattle.partition_content.specs.Spots.{spot_cmp}
+use Rattle.partition_content.specs.Reading.{wide_of}
+use Rattle.partition_content.proofs.ReachLemmas.{passed_start, among_start, passed_more, passed_over, passed_all, among_less, none_wide}
+use Rattle.partition_content.proofs.taking.is_outranked_by_wide.Goals as goal
+
+pub loop-slot-init : goal.loop-slot-init
+loop-slot-init c =
+    let e : c.into_iter-slot-iterator.result ≡ wide_of c.args.slots.now.entries =
+    c.into_iter-slot-iterator.ensures.into_iter_gives ∙ c.range-slot-items.ensures.between (search rules)
+    ∙ ap (λ (s : Spot). entries_between spot_cmp Unbounded (Excluded s) c.args.slots.now.entries) c.first_row-rows.ensures in
+    record { passed = passed_start c.args.x.now c.args.slots.now.entries c.into_iter-slot-iterator.result e; among = among_start c.args.slots.now.entries c.into_iter-slot-iterator.result e }
+
+pub loop-slot-preserved : goal.loop-slot-preserved
+loop-slot-preserved c = record {
+  passed = passed_more c.args.x.now (wide_of c.args.slots.now.entries) c.loop-slot.slot-iterator c.next.new.self c.in-Some.field-0-0.now c.in-Some.slot.now c.is_outranked_in.result c.in-Some.ensures.steps c.loop-slot.invariant.passed
+      c.is_outranked_in.ensures c.if-is_outranked_in.false;
+  among = among_less c.args.slots.now.entries c.loop-slot.slot-iterator c.next.new.self c.in-Some.field-0-0.now c.in-Some.slot.now c.in-Some.ensures.steps c.loop-slot.invariant.among;
+}
+
+pub returns-then-is_outranked_in-clause-told : goal.returns-then-is_outranked_in-clause-told
+returns-then-is_outranked_in-clause-told c =
+    λ t. passed_over c.args.slots.now.entries c.loop-slot.slot-iterator c.next.new.self c.in-Some.field-0-0.now c.in-Some.slot.now c.args.x.now c.in-Some.ensures.steps c.loop-slot.invariant.among
+    (c.is_outranked_in.ensures.0 c.if-is_outranked_in.true)
+
+pub returns-clause-missed : goal.returns-clause-missed
+returns-clause-missed c = λ f. passed_all c.args.slots.now.entries c.loop-slot.slot-iterator c.args.x.now c.requires.filed c.in-None.ensures.steps.0 c.loop-slot.invariant.passed
+
+pub returns-then-not-begins_wide-clause-missed : goal.returns-then-not-begins_wide-clause-missed
+returns-then-not-begins_wide-clause-missed c = λ f. none_wide c.args.slots.now c.args.x.now c.requires.filed (c.begins_wide.ensures c.if-not-begins_wide.true)

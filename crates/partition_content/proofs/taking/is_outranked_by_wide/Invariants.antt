@@ -1,0 +1,10 @@
+use Rattle.partition_content.specs.Reading.{wide_of}
+use Rattle.partition_content.proofs.ReachLemmas.{HasPassed, AreAmong}
+use Rattle.partition_content.proofs.taking.is_outranked_by_wide.Given as goal
+
+-- nothing that the walk has passed outranks the change
+abbrev pub invariant-loop-slot : goal.invariant-loop-slot
+invariant-loop-slot l = record {
+  passed : HasPassed l.x (wide_of l.slots.entries) l.slot-iterator;
+  among : AreAmong l.slot-iterator l.slots.entries;
+}

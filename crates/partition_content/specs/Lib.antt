@@ -1,0 +1,7 @@
+pub mod Spots
+pub mod SpotLaws
+pub mod Slots
+pub mod Keys
+pub mod Partition
+pub mod Reading
+pub mod Lengths

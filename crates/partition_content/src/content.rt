@@ -1,0 +1,163 @@
+//! What a node keeps of a partition.
+
+ghost use Rattle.std.specs.Prelude.{◌≡◌, ◌↔◌, [], None, IsTrue, IfOk, OnOk, OnErr};
+ghost use Rattle.cell_merge.specs.Settled.{IsSettled};
+ghost use Rattle.changes.specs.Contents.{IsMergeOf};
+ghost use Rattle.changes.specs.Lengths.{changes_length};
+ghost use Rattle.changes.specs.Queries.{IsSlice};
+
+use crate::lengths::length_with;
+use crate::memory::{Ready, give_back, give_back_unused, stays_bare, take_memory};
+use crate::reading::{copy_all, copy_slice};
+use crate::slots::Slots;
+use crate::taking::put_all;
+use cell_merge::Content;
+use changes::{Bound, encoded_length};
+use std::alloc::{AllocError, Global};
+use std::collections::BTreeMap;
+use std::marker::Model;
+
+/// The changes of a partition, none of which another one there outranks, in the order of their places. Further ones are put
+/// in by `apply`, once `reserve` has taken the memory that this needs.
+#[derive(Drop)]
+pub struct PartitionContent {
+    slots: Slots,
+    ready: Option<Ready>,
+    length: u64,
+    /// Whether no deletion of rows is among the changes, so that a cell is outranked at its own place alone.
+    bare: bool,
+    alloc: Global,
+}
+
+impl Model for PartitionContent {
+    ghost use Rattle.partition_content.specs.Partition.{Partition, places_in, IsKept};
+    ghost use Rattle.partition_content.specs.Slots.{changes_of};
+
+    ghost Value = { Partition };
+
+    ghost view = { λ a. record { changes = changes_of a.slots.entries; ready = places_in a.ready } };
+
+    ghost invariant = { λ a. IsKept a.slots a.ready a.length a.bare };
+}
+
+impl PartitionContent {
+    ghost use Rattle.partition_content.specs.Lengths.{IsMergedLength};
+    ghost use Rattle.partition_content.specs.Partition.{IsReadyFor};
+
+    /// No changes, without an allocation. Further memory comes from this allocator.
+    pub fn new(alloc: Global) -> PartitionContent
+        ensures changes { result.changes ≡ [] }
+        ensures ready { result.ready ≡ None }
+    {
+        PartitionContent {
+            slots: BTreeMap::new(alloc),
+            ready: None,
+            length: encoded_length(&[]),
+            bare: true,
+            alloc,
+        }
+    }
+
+    /// Gives back the memory that was taken for changes that did not come.
+    fn release(&mut self)
+        ensures changes { self.new.changes ≡ self.old.changes }
+        ensures ready { self.new.ready ≡ None }
+    {
+        if let Some(ready) = self.ready.take() {
+            give_back(&mut self.slots, &ready.keys);
+        }
+    }
+
+    /// Takes all the memory that `apply` needs for these changes, so that it can't fail. The changes stay as they are. Memory
+    /// that was taken before for others is given back. It is an error too where the length would not be below 2^64.
+    pub fn reserve(&mut self, incoming: &Content) -> Result<(), AllocError>
+        ensures changes { self.new.changes ≡ self.old.changes }
+        ensures ready { OnOk result (IsReadyFor self.new incoming.now) }
+        ensures err { OnErr result (self.new.ready ≡ None) }
+    {
+        self.release();
+        let changes = incoming.as_slice();
+        if self.length.checked_add(encoded_length(changes)).is_none() {
+            return Err(AllocError);
+        }
+        let bare = stays_bare(self.bare, changes);
+        let keys = take_memory(&mut self.slots, self.alloc, bare, changes)?;
+        self.ready = Some(Ready { bare, keys });
+        Ok(())
+    }
+
+    /// Puts in changes for which there is memory: the content is then that of both. It takes no memory, and moves the changes.
+    pub fn apply(&mut self, incoming: Content)
+        requires { IsReadyFor self.old incoming }
+        ensures content { IsMergeOf self.new.changes self.old.changes incoming }
+        ensures ready { self.new.ready ≡ None }
+    {
+        if let Some(ready) = self.ready.take() {
+            self.length = put_all(
+                &mut self.slots,
+                self.length,
+                self.alloc,
+                ready.bare,
+                &ready.keys,
+                incoming.into_changes(),
+            );
+            self.bare = ready.bare;
+            give_back_unused(&mut self.slots, &ready);
+        }
+    }
+
+    /// The length that `apply` would leave, as the changes are stored, told before it is called; `reserve` has to come first. Cells
+    /// and markers cost the logarithm of the changes held; with a deletion of rows each change held is looked at.
+    pub fn length_with(&self, incoming: &Content) -> u64
+        requires { IsReadyFor self.now incoming.now }
+        ensures { IsMergedLength self.now.changes incoming.now result }
+    {
+        match &self.ready {
+            Some(ready) => length_with(
+                &self.slots,
+                self.length,
+                self.alloc,
+                ready.bare,
+                &ready.keys,
+                incoming.as_slice(),
+            ),
+            None => self.length,
+        }
+    }
+
+    /// What the rows between the bounds ask of the content: the changes of these rows, and the deletions of rows that meet the
+    /// bounds, in memory of their own. It costs the logarithm of the changes held, the changes given, and the number of
+    /// deletions of ranges.
+    pub fn slice(&self, alloc: Global, from: &Bound, upto: &Bound) -> Result<Content, AllocError>
+        ensures { IfOk result (λ part. IsSlice from.now upto.now self.now.changes part) }
+    {
+        let changes = copy_slice(alloc, &self.slots, from, upto)?;
+        let part = Content::from_changes(alloc, changes)?;
+        Ok(part)
+    }
+
+    /// All changes, in memory of their own.
+    pub fn whole(&self, alloc: Global) -> Result<Content, AllocError>
+        ensures { IfOk result (λ content. content ≡ self.now.changes) }
+    {
+        let changes = copy_all(alloc, &self.slots)?;
+        let content = Content::from_changes(alloc, changes)?;
+        let _ = content.as_slice();
+        Ok(content)
+    }
+
+    /// Whether there are no changes.
+    pub fn is_empty(&self) -> bool
+        ensures { IsTrue result ↔ (self.now.changes ≡ []) }
+    {
+        self.length == encoded_length(&[])
+    }
+
+    /// The length of the changes as they are stored.
+    pub fn encoded_length(&self) -> u64
+        ensures length { result ≡ changes_length self.now.changes }
+        ensures settled { IsSettled self.now.changes }
+    {
+        self.length
+    }
+}

@@ -1,0 +1,111 @@
+//! Memory for changes, taken before they come.
+
+ghost use Rattle.std.specs.Prelude.{◌≡◌, ℕ, List, [], map, ◌&&◌, IfOk, OnOk, Contains};
+ghost use Rattle.changes.specs.declared.Place.{Place as place_value};
+ghost use Rattle.partition_content.specs.Slots.{changes_of, HasSlot, IsGood};
+ghost use Rattle.partition_content.specs.Keys.{keys_for};
+ghost use Rattle.partition_content.specs.Partition.{place_of, AreSlotsFor, is_narrow as is_narrow_change};
+ghost use Rattle.std.specs.List.{list_all};
+
+use crate::keys::Keys;
+use crate::slots::{Slots, drop_unused, make_slot};
+use changes::{Held, Place};
+use std::alloc::{AllocError, Global};
+
+/// Memory that is taken for changes: the keys of their places, and whether no deletion of rows is among these changes and those
+/// that are there.
+#[derive(Drop)]
+pub(crate) struct Ready {
+    pub(crate) bare: bool,
+    pub(crate) keys: Vec<Keys>,
+}
+
+/// Whether it is no deletion of rows.
+fn is_narrow(x: &Held) -> bool
+    ensures { result ≡ is_narrow_change x.now }
+{
+    matches!(x.place, Place::Cell(_, _) | Place::Marker(_))
+}
+
+/// Whether no deletion of rows is among the changes.
+pub(crate) fn are_narrow(changes: &[Held]) -> bool
+    ensures { result ≡ list_all is_narrow_change changes.now }
+{
+    changes.iter().all(|x| is_narrow(x))
+}
+
+/// Whether no deletion of rows is among the changes, nor among others, of which that is told.
+pub(crate) fn stays_bare(bare: bool, changes: &[Held]) -> bool
+    ensures { result ≡ (bare && list_all is_narrow_change changes.now) }
+{
+    bare && are_narrow(changes)
+}
+
+/// Gives back the memory that is taken at these keys and that no change has.
+pub(crate) fn give_back(slots: &mut Slots, keys: &[Keys])
+    requires { IsGood slots.old }
+    ensures changes { changes_of slots.new.entries ≡ changes_of slots.old.entries }
+    ensures good { IsGood slots.new }
+{
+    for own in keys {
+        drop_unused(slots, &own.at);
+    }
+}
+
+/// Gives back the memory that no change has, once the changes for which it was taken were put in. Each of them has its own where
+/// no deletion of rows is among them.
+pub(crate) fn give_back_unused(slots: &mut Slots, ready: &Ready)
+    requires { IsGood slots.old }
+    ensures changes { changes_of slots.new.entries ≡ changes_of slots.old.entries }
+    ensures good { IsGood slots.new }
+{
+    if !ready.bare {
+        give_back(slots, &ready.keys);
+    }
+}
+
+/// Takes memory for changes, and puts the keys of their places behind those that are there.
+fn take_each(
+    slots: &mut Slots,
+    alloc: Global,
+    bare: bool,
+    changes: &[Held],
+    keys: &mut Vec<Keys>,
+) -> Result<(), AllocError>
+    requires good { IsGood slots.old }
+    requires none { keys.old.items ≡ [] }
+    ensures changes { changes_of slots.new.entries ≡ changes_of slots.old.entries }
+    ensures good { IsGood slots.new }
+    ensures keys { OnOk result (keys.new.items ≡ map (keys_for bare) (map place_of changes.now)) }
+    ensures there { OnOk result (AreSlotsFor slots.new changes.now) }
+{
+    for x in changes {
+        let own = Keys::of(alloc, bare, &x.place)?;
+        make_slot(slots, alloc, &own.at)?;
+        keys.push(own)?;
+    }
+    Ok(())
+}
+
+/// Takes memory for changes, and gives the keys of their places.
+pub(crate) fn take_memory(
+    slots: &mut Slots,
+    alloc: Global,
+    bare: bool,
+    changes: &[Held],
+) -> Result<Vec<Keys>, AllocError>
+    requires { IsGood slots.old }
+    ensures changes { changes_of slots.new.entries ≡ changes_of slots.old.entries }
+    ensures good { IsGood slots.new }
+    ensures keys { IfOk result (λ keys. keys.items ≡ map (keys_for bare) (map place_of changes.now)) }
+    ensures there { OnOk result (AreSlotsFor slots.new changes.now) }
+{
+    let mut keys = Vec::with_capacity(alloc, changes.len())?;
+    match take_each(slots, alloc, bare, changes, &mut keys) {
+        Ok(()) => Ok(keys),
+        Err(error) => {
+            give_back(slots, &keys);
+            Err(error)
+        }
+    }
+}

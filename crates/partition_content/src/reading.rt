@@ -1,0 +1,148 @@
+//! Copies of the changes of a partition, as they go to other nodes.
+
+ghost use Rattle.std.specs.Prelude.{◌≡◌, ◌⊎◌, ◌++◌, ◌↔◌, List, [], Some, IfOk, OnOk, Contains};
+ghost use Rattle.std.specs.Option.{option_to_list};
+ghost use Rattle.changes.specs.declared.Held.{Held as held_value};
+ghost use Rattle.std.specs.declared.cmp.Ordering.TheVariants.{Less};
+ghost use Rattle.changes.specs.Places.{bound_cmp};
+ghost use Rattle.changes.specs.Queries.{MeetsBounds};
+ghost use Rattle.partition_content.specs.Slots.{changes_of, AreFiled};
+ghost use Rattle.partition_content.specs.Reading.{wide_of, rows_of, first_row as first_key};
+
+use crate::slots::{Slots, whole};
+use crate::spots::Spot;
+use changes::{Bound, Held};
+use cs_base::Bytes;
+use std::alloc::{AllocError, Global};
+use std::cmp::Ordering;
+use std::collections::btree_map::Range;
+use std::ops;
+
+/// A key behind those of the deletions of ranges and of the partition, and before those of the rows.
+pub(crate) fn first_row(alloc: Global) -> Spot
+    ensures { result ≡ first_key }
+{
+    Spot::Edge(Bound {
+        at: Bytes::new(alloc),
+        after: false,
+    })
+}
+
+/// Puts a copy of the change in a slot behind those that are there, if it meets the bounds.
+fn copy_if_met(
+    onto: &mut Vec<Held>,
+    alloc: Global,
+    slot: &Option<Held>,
+    from: &Bound,
+    upto: &Bound,
+) -> Result<(), AllocError>
+    ensures { OnOk result ((x : held_value) → Contains onto.new.items x ↔ (Contains onto.old.items x ⊎ ((slot.now ≡ Some x) × MeetsBounds from.now upto.now x.place))) }
+{
+    if let Some(held) = slot {
+        if held.place.meets(from, upto) {
+            onto.push(held.copy(alloc)?)?;
+        }
+    }
+    Ok(())
+}
+
+/// Puts copies of the changes on a walk that meet the bounds behind those that are there.
+fn copy_met(
+    onto: &mut Vec<Held>,
+    alloc: Global,
+    walk: Range<'_, Spot, Option<Held>>,
+    from: &Bound,
+    upto: &Bound,
+) -> Result<(), AllocError>
+    ensures { OnOk result ((x : held_value) → Contains onto.new.items x ↔ (Contains onto.old.items x ⊎ (Contains (changes_of walk.entry) x × MeetsBounds from.now upto.now x.place))) }
+{
+    for (_, slot) in walk {
+        copy_if_met(onto, alloc, slot, from, upto)?;
+    }
+    Ok(())
+}
+
+/// Puts copies of the deletions of ranges and of the partition that meet the bounds behind those that are there.
+fn copy_wide(
+    onto: &mut Vec<Held>,
+    alloc: Global,
+    slots: &Slots,
+    from: &Bound,
+    upto: &Bound,
+) -> Result<(), AllocError>
+    ensures { OnOk result ((x : held_value) → Contains onto.new.items x ↔ (Contains onto.old.items x ⊎ (Contains (changes_of (wide_of slots.now.entries)) x × MeetsBounds from.now upto.now x.place))) }
+{
+    let rows = first_row(alloc);
+    let walk = slots.range((ops::Bound::Unbounded, ops::Bound::Excluded(&rows)));
+    copy_met(onto, alloc, walk, from, upto)
+}
+
+/// Puts copies of the changes of the rows between two bounds behind those that are there.
+fn copy_between(
+    onto: &mut Vec<Held>,
+    alloc: Global,
+    slots: &Slots,
+    from: &Bound,
+    upto: &Bound,
+) -> Result<(), AllocError>
+    requires { bound_cmp from.now upto.now ≡ Less }
+    ensures { OnOk result ((x : held_value) → Contains onto.new.items x ↔ (Contains onto.old.items x ⊎ (Contains (changes_of (rows_of from.now upto.now slots.now.entries)) x × MeetsBounds from.now upto.now x.place))) }
+{
+    let low = Spot::Edge(from.copy(alloc)?);
+    let high = Spot::Edge(upto.copy(alloc)?);
+    let walk = slots.range((ops::Bound::Excluded(&low), ops::Bound::Excluded(&high)));
+    copy_met(onto, alloc, walk, from, upto)
+}
+
+/// Puts copies of the changes of the rows between the bounds, if the first is before the second, behind those that are there.
+fn copy_rows(
+    onto: &mut Vec<Held>,
+    alloc: Global,
+    slots: &Slots,
+    from: &Bound,
+    upto: &Bound,
+) -> Result<(), AllocError>
+    ensures { OnOk result ((x : held_value) → Contains onto.new.items x ↔ (Contains onto.old.items x ⊎ (Contains (changes_of (rows_of from.now upto.now slots.now.entries)) x × MeetsBounds from.now upto.now x.place))) }
+{
+    match from.cmp(upto) {
+        Ordering::Less => copy_between(onto, alloc, slots, from, upto),
+        Ordering::Equal | Ordering::Greater => Ok(()),
+    }
+}
+
+/// Copies of the changes that meet the bounds.
+pub(crate) fn copy_slice(
+    alloc: Global,
+    slots: &Slots,
+    from: &Bound,
+    upto: &Bound,
+) -> Result<Vec<Held>, AllocError>
+    requires { AreFiled slots.now.entries }
+    ensures { IfOk result (λ part. (x : held_value) → Contains part.items x ↔ (Contains (changes_of slots.now.entries) x × MeetsBounds from.now upto.now x.place)) }
+{
+    let mut part = Vec::new(alloc);
+    copy_wide(&mut part, alloc, slots, from, upto)?;
+    copy_rows(&mut part, alloc, slots, from, upto)?;
+    Ok(part)
+}
+
+/// Puts a copy of the change in a slot behind those that are there.
+fn copy_slot(all: &mut Vec<Held>, alloc: Global, slot: &Option<Held>) -> Result<(), AllocError>
+    ensures { OnOk result (all.new.items ≡ all.old.items ++ option_to_list slot.now) }
+{
+    if let Some(held) = slot {
+        all.push(held.copy(alloc)?)?;
+    }
+    Ok(())
+}
+
+/// Copies of all changes, in order.
+pub(crate) fn copy_all(alloc: Global, slots: &Slots) -> Result<Vec<Held>, AllocError>
+    ensures { IfOk result (λ all. all.items ≡ changes_of slots.now.entries) }
+{
+    let mut all = Vec::new(alloc);
+    for (_, slot) in whole(slots) {
+        copy_slot(&mut all, alloc, slot)?;
+    }
+    Ok(all)
+}

@@ -1,0 +1,241 @@
+//! How the tree takes in a change: what is there stays exactly where the change doesn't outrank it, and the change is put in
+//! exactly where nothing that is there is it or outranks it.
+
+ghost use Rattle.std.specs.Prelude.{◌≡◌, ◌≢◌, ◌⊎◌, ◌↔◌, ◌+◌, ◌<◌, ◌≤◌, ◌^◌, ℕ, List, [], true, false, Some, None, IsTrue, IsSome, Contains, map};
+ghost use Rattle.std.specs.BTreeMap.{get, keys as keys_in};
+ghost use Rattle.std.specs.List.{sum_by};
+ghost use Rattle.std.specs.List.Sorted.{IsStrictlySortedBy};
+ghost use Rattle.changes.specs.declared.Held.{Held as held_value};
+ghost use Rattle.cell_merge.specs.Parts.{IsInnermost};
+ghost use Rattle.changes.specs.Contents.{Either, IsContent, IsReachedBy};
+ghost use Rattle.changes.specs.Lengths.{held_length, changes_length};
+ghost use Rattle.changes.specs.Order.{Outranks};
+ghost use Rattle.partition_content.specs.Spots.{spot_cmp};
+ghost use Rattle.partition_content.specs.declared.spots.Spot.TheVariants.{At};
+ghost use Rattle.partition_content.specs.Slots.{AreCleared, AreLost, is_wide_spot, changes_of, change_in, AreFiled, HasSlot, IsReachedAt, IsOutrankedAt, IsOutrankedFrom, IsOutrankedUnder, IsGood};
+ghost use Rattle.partition_content.specs.Keys.{AreKeysOf, keys_for};
+ghost use Rattle.partition_content.specs.Partition.{place_of, AreSlotsFor, AreBare, IsTakenIn};
+
+use crate::keys::{Keys, Span};
+use crate::reading::first_row;
+use crate::slots::{Slots, change_at, clear_all, lost_in_row, lost_on, put_at, put_own, whole};
+use crate::spots::Spot;
+use changes::Held;
+use std::alloc::Global;
+use std::cmp::Ordering;
+use std::ops;
+
+/// Whether the change at the key is this one or beats it, where both are of one place.
+pub(crate) fn is_reached_at(slots: &Slots, at: &Spot, x: &Held) -> bool
+    ensures { IsTrue result ↔ IsReachedAt (change_in (get spot_cmp slots.now at.now)) x.now }
+{
+    match change_at(slots, at) {
+        Some(held) => held.rank(x) != Ordering::Less,
+        None => false,
+    }
+}
+
+/// Whether the change at the key outranks this one.
+fn is_outranked_at(slots: &Slots, at: &Spot, x: &Held) -> bool
+    ensures { IsTrue result ↔ IsOutrankedAt (change_in (get spot_cmp slots.now at.now)) x.now }
+{
+    match change_at(slots, at) {
+        Some(held) => held.outranks(x),
+        None => false,
+    }
+}
+
+fn is_outranked_in(slot: &Option<Held>, x: &Held) -> bool
+    ensures { IsTrue result ↔ IsOutrankedAt slot.now x.now }
+{
+    match slot {
+        Some(held) => held.outranks(x),
+        None => false,
+    }
+}
+
+/// Whether the place is in no single row.
+fn is_wide(at: &Spot) -> bool
+    ensures { result ≡ is_wide_spot at.now }
+{
+    match at {
+        Spot::At(place) => place.row().is_none(),
+        Spot::Edge(_) => false,
+    }
+}
+
+/// Whether the first key is that of a deletion of a range or of the partition. Where it is not, there is none.
+fn begins_wide(slots: &Slots) -> bool
+    requires { IsStrictlySortedBy spot_cmp (keys_in slots.now) }
+    ensures { result ≡ false → (spot : _) → Contains (keys_in slots.now) spot → is_wide_spot spot ≡ false }
+{
+    match slots.first_key_value() {
+        Some((first, _)) => is_wide(first),
+        None => false,
+    }
+}
+
+/// Whether a deletion of a range or of the partition outranks the change.
+fn is_outranked_by_wide(slots: &Slots, alloc: Global, x: &Held) -> bool
+    requires { IsGood slots.now }
+    ensures told { IsTrue result → IsReachedBy (changes_of slots.now.entries) x.now }
+    ensures missed { result ≡ false → IsOutrankedFrom slots.now.entries x.now → ⊥ }
+{
+    if !begins_wide(slots) {
+        return false;
+    }
+    let rows = first_row(alloc);
+    for (_, slot) in slots.range((ops::Bound::Unbounded, ops::Bound::Excluded(&rows))) {
+        if is_outranked_in(slot, x) {
+            return true;
+        }
+    }
+    false
+}
+
+/// Whether the deletion of its row outranks the change.
+fn is_outranked_under(slots: &Slots, span: &Span, x: &Held) -> bool
+    ensures { IsTrue result ↔ IsOutrankedUnder slots.now span.now x.now }
+{
+    match span {
+        Span::Under(row) => is_outranked_at(slots, row, x),
+        Span::Alone | Span::Row(_) | Span::Rows(_, _) | Span::All => false,
+    }
+}
+
+/// Whether a deletion of rows outranks the change. Whatever else is it or outranks it is at its own place.
+pub(crate) fn is_outranked_over(
+    slots: &Slots,
+    alloc: Global,
+    bare: bool,
+    own: &Keys,
+    x: &Held,
+) -> bool
+    requires keys { own.now ≡ keys_for bare x.now.place }
+    requires good { IsGood slots.now }
+    requires bare { bare ≡ true → AreBare (changes_of slots.now.entries) }
+    ensures told { IsTrue result → IsReachedBy (changes_of slots.now.entries) x.now }
+    ensures missed { result ≡ false → IsReachedBy (changes_of slots.now.entries) x.now → IsReachedAt (change_in (get spot_cmp slots.now (At x.now.place))) x.now }
+{
+    if bare {
+        return false;
+    }
+    if is_outranked_under(slots, &own.span, x) {
+        return true;
+    }
+    is_outranked_by_wide(slots, alloc, x)
+}
+
+/// The length of the changes that the deletion of rows outranks.
+fn lost_by(slots: &Slots, own: &Keys, x: &Held) -> u64
+    requires keys { AreKeysOf own.now x.now.place }
+    requires filed { AreFiled slots.now.entries }
+    requires fits { sum_by held_length (changes_of slots.now.entries) < 2 ^ 64 }
+    ensures { AreLost x.now slots.now.entries result }
+{
+    match &own.span {
+        Span::Row(end) => lost_in_row(slots, &own.at, end, x),
+        Span::Alone | Span::Under(_) | Span::Rows(_, _) | Span::All => lost_on(whole(slots), x),
+    }
+}
+
+/// Takes out the changes that x outranks, which have this length together.
+fn clear(slots: &mut Slots, x: &Held, lost: u64)
+    requires { AreLost x.now slots.old.entries lost }
+    ensures cleared { AreCleared x.now slots.old.entries slots.new.entries }
+    ensures keys { keys_in slots.new ≡ keys_in slots.old }
+{
+    if lost != 0 {
+        clear_all(slots, x);
+    }
+}
+
+/// Takes in a deletion of rows for which there is memory, and gives the length that the changes then have.
+fn put_deletion(slots: &mut Slots, length: u64, own: &Keys, x: Held) -> u64
+    requires keys { AreKeysOf own.now x.place }
+    requires slot { HasSlot slots.old x.place }
+    requires good { IsGood slots.old }
+    requires length { length ≡ changes_length (changes_of slots.old.entries) }
+    requires fits { length + held_length x < 2 ^ 64 }
+    requires reached { IsReachedBy (changes_of slots.old.entries) x → IsReachedAt (change_in (get spot_cmp slots.old (At x.place))) x }
+    ensures { IsTakenIn slots.old slots.new x length result }
+{
+    if is_reached_at(slots, &own.at, &x) {
+        return length;
+    }
+    let lost = lost_by(slots, own, &x);
+    let gained = x.encoded_length();
+    clear(slots, &x, lost);
+    put_at(slots, &own.at, x);
+    length - lost + gained
+}
+
+/// Takes in a cell or a marker for which there is memory, and gives the length that the changes then have.
+fn put_cell(slots: &mut Slots, length: u64, own: &Keys, x: Held) -> u64
+    requires at { own.now.at ≡ At x.place }
+    requires narrow { IsInnermost x.place }
+    requires slot { HasSlot slots.old x.place }
+    requires good { IsGood slots.old }
+    requires length { length ≡ changes_length (changes_of slots.old.entries) }
+    requires fits { length + held_length x < 2 ^ 64 }
+    requires reached { IsReachedBy (changes_of slots.old.entries) x → IsReachedAt (change_in (get spot_cmp slots.old (At x.place))) x }
+    ensures { IsTakenIn slots.old slots.new x length result }
+{
+    put_own(slots, length, &own.at, x)
+}
+
+/// Takes in a change for which there is memory, and gives the length that the changes then have.
+pub(crate) fn put(
+    slots: &mut Slots,
+    length: u64,
+    alloc: Global,
+    bare: bool,
+    own: &Keys,
+    x: Held,
+) -> u64
+    requires keys { own.now ≡ keys_for bare x.place }
+    requires slot { HasSlot slots.old x.place }
+    requires good { IsGood slots.old }
+    requires length { length ≡ changes_length (changes_of slots.old.entries) }
+    requires fits { length + held_length x < 2 ^ 64 }
+    requires bare { bare ≡ true → AreBare (changes_of slots.old.entries) }
+    requires narrow { bare ≡ true → IsInnermost x.place }
+    ensures { IsTakenIn slots.old slots.new x length result }
+{
+    if is_outranked_over(slots, alloc, bare, own, &x) {
+        return length;
+    }
+    match &own.span {
+        Span::Alone | Span::Under(_) => put_cell(slots, length, own, x),
+        Span::Row(_) | Span::Rows(_, _) | Span::All => put_deletion(slots, length, own, x),
+    }
+}
+
+/// Takes in changes for which there is memory, and gives the length that the changes then have.
+pub(crate) fn put_all(
+    slots: &mut Slots,
+    length: u64,
+    alloc: Global,
+    bare: bool,
+    keys: &[Keys],
+    changes: Vec<Held>,
+) -> u64
+    requires keys { keys.now ≡ map (keys_for bare) (map place_of changes.items) }
+    requires slots { AreSlotsFor slots.old changes.items }
+    requires good { IsGood slots.old }
+    requires length { length ≡ changes_length (changes_of slots.old.entries) }
+    requires fits { changes_length (changes_of slots.old.entries) + changes_length changes.items < 2 ^ 64 }
+    requires bare { bare ≡ true → AreBare (changes_of slots.old.entries) }
+    requires narrow { bare ≡ true → AreBare changes.items }
+    ensures content { IsContent (changes_of slots.new.entries) (Either (Contains (changes_of slots.old.entries)) (Contains changes.items)) }
+    ensures good { IsGood slots.new }
+    ensures length { result ≡ changes_length (changes_of slots.new.entries) }
+{
+    let mut length = length;
+    let mut at = 0;
+    for x in changes {
+        length = put(slots, length, alloc, bare, &keys[at], x);
+        at += 1;
+    }
+    length
+}

@@ -1,0 +1,79 @@
+//! Cells applied to what is kept of one partition, one after another. With no words it applies a hundred, ten to a row, and
+//! tells how many rows there are; `time COUNT` applies so many, ten to a row, and `row COUNT` so many to one row, and each
+//! writes how many microseconds that took.
+#![tactic(auto)]
+
+use anyhow::{Result, bail};
+use cell_merge::Content;
+use changes::{Held, Place};
+use cs_base::{Bytes, Micros, NodeId, ReqId};
+use partition_content::PartitionContent;
+use std::alloc::{AllocError, Global};
+use std::env;
+use std::time::Instant;
+
+fn main(rt: HostRuntime) -> Result<()> {
+    let words: Vec<String> = env::args(&rt)?.collect(rt.alloc())?;
+    let command = words.get(1).map_or("sample", |word| word.as_str());
+    let count: u32 = words.get(2).map_or("100", |word| word.as_str()).parse()?;
+    let start = Instant::now(&rt)?;
+    match command {
+        "sample" => {
+            let content = apply_cells(rt.alloc(), count, count / 10)?;
+            let rows = row_count(rt.alloc(), &content)?;
+            println!(rt; "{count} cells, {rows} rows")?;
+        }
+        "time" => {
+            let _content = apply_cells(rt.alloc(), count, count / 10)?;
+            let micros = start.elapsed(&rt)?.as_micros();
+            println!(rt; "{micros}")?;
+        }
+        "row" => {
+            let _content = apply_cells(rt.alloc(), count, 1)?;
+            let micros = start.elapsed(&rt)?.as_micros();
+            println!(rt; "{micros}")?;
+        }
+        _ => bail!("time COUNT, row COUNT, or no words"),
+    }
+    Ok(())
+}
+
+/// Applies so many cells one after another, to so many rows out of order.
+fn apply_cells(alloc: Global, count: u32, rows: u32) -> Result<PartitionContent, AllocError> {
+    let mut content = PartitionContent::new(alloc);
+    let rows = rows.max(1);
+    for at in 0..count {
+        let row = at.wrapping_mul(2654435761) % rows;
+        let incoming = one_cell(alloc, row, at)?;
+        content.reserve(&incoming)?;
+        content.apply(incoming);
+    }
+    Ok(content)
+}
+
+fn one_cell(alloc: Global, row: u32, at: u32) -> Result<Content, AllocError> {
+    let name = Bytes::from_slice(alloc, &row.to_be_bytes())?;
+    let column = (at % 250) as u8;
+    let mut changes = Vec::new(alloc);
+    changes.push(Held {
+        place: Place::Cell(name, column),
+        value: Some(Bytes::from_slice(alloc, b"value")?),
+        timestamp: i64::from(at),
+        submitted: Micros::new(1),
+        request: ReqId {
+            node: NodeId::FIRST,
+            time: Micros::new(1),
+        },
+    })?;
+    Content::from_changes(alloc, changes)
+}
+
+fn row_count(alloc: Global, content: &PartitionContent) -> Result<usize, AllocError> {
+    let whole = content.whole(alloc)?;
+    let mut rows = Vec::new(alloc);
+    for held in whole.as_slice() {
+        rows.push(held.place.row())?;
+    }
+    rows.dedup();
+    Ok(rows.len())
+}

@@ -1,0 +1,322 @@
+//! Worked scripts, with answers that were written by hand.
+
+use cluster_program::{Status, run_cluster};
+use cs_io::{MemSink, MemSource};
+use std::alloc::{AllocError, Global};
+use std::test::Fail;
+
+/// What a run ended with, and what it wrote.
+#[derive(Drop)]
+struct Ended {
+    status: Status,
+    text: Vec<u8>,
+}
+
+/// Source and sink take `most` bytes in a call, and these calls of theirs fail.
+#[derive(Clone, Copy)]
+struct Outside<'a> {
+    most: usize,
+    failing_reads: &'a [u64],
+    failing_writes: &'a [u64],
+}
+
+const SOUND: Outside<'static> = Outside {
+    most: 1000,
+    failing_reads: &[],
+    failing_writes: &[],
+};
+
+fn run(
+    alloc: Global,
+    command: &str,
+    script: &str,
+    outside: &Outside<'_>,
+) -> Result<Ended, AllocError> {
+    let mut words = Vec::new(alloc);
+    for word in command.split(' ') {
+        words.push(String::from_str(alloc, word)?)?;
+    }
+    let mut source = MemSource::new(
+        Vec::from_slice(alloc, script.as_bytes())?,
+        outside.most,
+        Vec::from_slice(alloc, outside.failing_reads)?,
+    );
+    let mut sink = MemSink::new(
+        alloc,
+        outside.most,
+        Vec::from_slice(alloc, outside.failing_writes)?,
+    );
+    let status = run_cluster(alloc, &words, &mut source, &mut sink);
+    let text = Vec::from_slice(alloc, sink.bytes())?;
+    Ok(Ended { status, text })
+}
+
+const HEAD: &str = "cassandra-script 1\nring 0\nrf 1\nrun\n";
+
+fn behind_head(alloc: Global, lines: &str) -> Result<String, AllocError> {
+    let mut script = String::from_str(alloc, HEAD)?;
+    script.push_str(lines)?;
+    Ok(script)
+}
+
+#[test]
+fn answers_scripts(rt: HostRuntime) -> Result<(), Fail> {
+    let cases = [
+        (
+            "put 0 ONE k a 5 x\nget 0 ONE k\n",
+            "1 ok\n2 rows 1\n 'a' | 'x'\n",
+        ),
+        ("put 0 ONE k a 5 x\nget 0 ONE z\n", "1 ok\n2 rows 0\n"),
+        (
+            "put 0 ONE k a 5 1\nput 0 ONE k a 5 2\nput 0 ONE k b 5 2\nput 0 ONE k b 5 1\nget 0 ONE k",
+            "1 ok\n2 ok\n3 ok\n4 ok\n5 rows 2\n 'a' | '2'\n 'b' | '2'\n",
+        ),
+        (
+            "# later lines may be older\n\nput 0 ONE k b 2 it's\nput 0 ONE k b -1 old\nput 0 ONE k a 1 x\nget 0 ONE k\n",
+            "1 ok\n2 ok\n3 ok\n4 rows 2\n 'a' | 'x'\n 'b' | 'it''s'\n",
+        ),
+        (
+            "put 0 TWO k a 5 x\nput 0 SERIAL k a 5 x\nget 0 LOCAL_SERIAL k\n",
+            "1 unavailable required 2 alive 1\n2 invalid SerialWrite\n3 invalid Level\n",
+        ),
+        ("deliver 0 0 1\ndrop 0 0 0\nsettle 100000\n", ""),
+        ("", ""),
+    ];
+    for (lines, want) in cases {
+        let script = behind_head(rt.alloc(), lines)?;
+        let ended = run(rt.alloc(), "script", script.as_str(), &SOUND)?;
+        assert_eq!(rt; ended.status, Status::Ok, "{lines}");
+        assert_eq!(rt; ended.text.as_slice(), want.as_bytes(), "{lines}");
+    }
+    Ok(())
+}
+
+const HEAD_OF_THREE: &str = "cassandra-script 1\nring -3 0 3\nrf 3\nrun\n";
+
+// Lost, repeated and late messages between three nodes.
+#[test]
+fn answers_scripts_of_three_nodes(rt: HostRuntime) -> Result<(), Fail> {
+    let cases = [
+        (
+            "put 0 QUORUM k a 5 x\ndeliver 0 1 1\ndeliver 1 0 1\nget 2 QUORUM k\ndeliver 2 1 1\ndeliver 1 2 1\n",
+            "1 ok\n2 rows 1\n 'a' | 'x'\n",
+        ),
+        (
+            "put 0 ALL k a 5 x\ndeliver 0 1 1\ndeliver 1 0 1\ndeliver 1 0 1\n",
+            "",
+        ),
+        (
+            "put 0 QUORUM k a 5 x\ndrop 0 1 1\nsettle 100\nget 1 ONE k\ndeliver 0 1 1\nget 1 ONE k\n",
+            "1 ok\n2 rows 0\n3 rows 1\n 'a' | 'x'\n",
+        ),
+        (
+            "put 0 ALL k a 5 x\nput 1 ALL k a 4 old\nsettle 100\nget 2 ALL k\nsettle 100\n",
+            "1 ok\n2 ok\n3 rows 1\n 'a' | 'x'\n",
+        ),
+    ];
+    for (lines, want) in cases {
+        let mut script = String::from_str(rt.alloc(), HEAD_OF_THREE)?;
+        script.push_str(lines)?;
+        let ended = run(rt.alloc(), "script", script.as_str(), &SOUND)?;
+        assert_eq!(rt; ended.status, Status::Ok, "{lines}");
+        assert_eq!(rt; ended.text.as_slice(), want.as_bytes(), "{lines}");
+    }
+    Ok(())
+}
+
+const HEAD_OF_KS: &str =
+    "cassandra-script 1\nring 0\nrf 1\nschema CREATE KEYSPACE ks WITH replication = {'class': 'SimpleStrategy', 'replication_factor': 1}\nschema CREATE TABLE ks.t (k int, c int, v text, PRIMARY KEY (k, c))\nrun\n";
+
+/// What these lines answer behind the head with the table `ks.t`.
+fn answered(alloc: Global, lines: &str) -> Result<Ended, AllocError> {
+    let mut script = String::from_str(alloc, HEAD_OF_KS)?;
+    script.push_str(lines)?;
+    run(alloc, "script", script.as_str(), &SOUND)
+}
+
+// A deletion beats a value of its time; INSERT writes a row, and UPDATE only cells (CQL reference, "UPDATE").
+#[test]
+fn answers_statements(rt: HostRuntime) -> Result<(), Fail> {
+    let cases = [
+        (
+            "cql 0 ONE UPDATE ks.t USING TIMESTAMP 9 SET v = 'x' WHERE k = 1 AND c = 1\ncql 0 ONE UPDATE ks.t USING TIMESTAMP 9 SET v = null WHERE k = 1 AND c = 1\ncql 0 ONE SELECT * FROM ks.t WHERE k = 1\n",
+            "1 ok\n2 ok\n3 rows 0\n",
+        ),
+        (
+            "cql 0 ONE INSERT INTO ks.t (k, c) VALUES (1, 1)\ncql 0 ONE SELECT * FROM ks.t WHERE k = 1\n",
+            "1 ok\n2 rows 1\n 1 | 1 | null\n",
+        ),
+        (
+            "cql 0 ONE UPDATE ks.t SET v = null WHERE k = 2 AND c = 1\ncql 0 ONE SELECT * FROM ks.t WHERE k = 2\n",
+            "1 ok\n2 rows 0\n",
+        ),
+        (
+            "cql 0 ONE SELECT * FROM ks.nope WHERE k = 1\ncql 0 ONE SELECT * FROM ks.t WHERE k = ?\n",
+            "1 invalid UnknownTable\n2 invalid ValueCount\n",
+        ),
+        (
+            "cql 0 ONE INSERT INTO ks.t (k, c, v) VALUES (1, -1, 'a');\ncql 0 ONE INSERT INTO ks.t (k, c, v) VALUES (1, 1, 'b')\ncql 0 ONE SELECT v, c FROM ks.t WHERE k = 1 ORDER BY c DESC LIMIT 1\ncql 0 ONE SELECT COUNT(*) FROM ks.t WHERE k = 1 AND c > -2 \n",
+            "1 ok\n2 ok\n3 rows 1\n 'b' | 1\n4 rows 1\n 2\n",
+        ),
+    ];
+    for (lines, want) in cases {
+        let ended = answered(rt.alloc(), lines)?;
+        assert_eq!(rt; ended.status, Status::Ok, "{lines}");
+        assert_eq!(rt; ended.text.as_slice(), want.as_bytes(), "{lines}");
+    }
+    Ok(())
+}
+
+// A keyspace in use is that of later statements; levels and too few nodes come after a statement's own refusal.
+#[test]
+fn answers_in_their_order(rt: HostRuntime) -> Result<(), Fail> {
+    let cases = [
+        (
+            "cql 0 ONE SELECT v FROM t WHERE k = 1\ncql 0 ONE USE ks\ndrop 0 0 1\ncql 0 ONE SELECT v FROM t WHERE k = 1\ncql 0 ONE USE nope\ncql 0 ONE SELECT v FROM t WHERE k = 1\n",
+            "1 invalid UnknownTable\n2 keyspace ks\n3 rows 0\n4 invalid UnknownKeyspace\n5 rows 0\n",
+        ),
+        (
+            "cql 0 TWO SELECT v FROM ks.nope WHERE k = 1\ncql 0 TWO SELECT v FROM ks.t WHERE k = 1\ncql 0 SERIAL SELECT v FROM ks.t WHERE k = 1\ncql 0 SERIAL USE ks\n",
+            "1 invalid UnknownTable\n2 unavailable required 2 alive 1\n3 invalid Level\n4 keyspace ks\n",
+        ),
+        (
+            "cql 0 ONE INSERT INTO ks.t (k, c) VALUES (1, 1) IF NOT EXISTS\ncql 0 ONE CREATE TABLE ks.u (k int PRIMARY KEY)\nget 0 ONE k\nput 0 ONE k it's 5 o'clock\nget 0 ONE k\n",
+            "1 invalid NotSupported\n2 invalid NotSupported\n3 rows 0\n4 ok\n5 rows 1\n 'it''s' | 'o''clock'\n",
+        ),
+    ];
+    for (lines, want) in cases {
+        let ended = answered(rt.alloc(), lines)?;
+        assert_eq!(rt; ended.status, Status::Ok, "{lines}");
+        assert_eq!(rt; ended.text.as_slice(), want.as_bytes(), "{lines}");
+    }
+    Ok(())
+}
+
+#[test]
+fn refuses_what_is_no_script(rt: HostRuntime) -> Result<(), Fail> {
+    let cases = [
+        ("", "1: head expected\n"),
+        ("cassandra-script 2\n", "1: head expected\n"),
+        ("cassandra-script 1\nring 0\nrf 1\n", "4: head expected\n"),
+        (
+            "cassandra-script 1\nring 9223372036854775808\n",
+            "2: number out of range\n",
+        ),
+        (
+            "cassandra-script 1\nring 0\nrf 2\n",
+            "3: number out of range\n",
+        ),
+        (
+            "cassandra-script 1\nring 0\nrf 1\nrun\nput 0 ONE k a 5\n",
+            "5: line not understood\n",
+        ),
+        (
+            "cassandra-script 1\nring 0\nrf 1\nrun\nget 0 ONE k z\n",
+            "5: line not understood\n",
+        ),
+        (
+            "cassandra-script 1\nring 0\nrf 1\nrun\nget 9 ONE k\n",
+            "5: number out of range\n",
+        ),
+        (
+            "cassandra-script 1\nring 0\nrf 1\nrun\n# comment\nget 0 ANY k\n",
+            "6: number out of range\n",
+        ),
+        (
+            "cassandra-script 1\nring 0\nrf 1\nrun\nget 0 ONE k \n",
+            "5: line not understood\n",
+        ),
+        (
+            "cassandra-script 1\nring 0\nrf 1\nrun\ncql 0 ONE SELEC\n",
+            "5: cql refused at 0\n",
+        ),
+        (
+            "cassandra-script 1\nring 0\nrf 1\n\nschema CREATE TABLE ks.t (k int PRIMARY KEY)\nrun\nput\n",
+            "5: head expected\n",
+        ),
+    ];
+    for (script, want) in cases {
+        let ended = run(rt.alloc(), "script", script, &SOUND)?;
+        assert_eq!(rt; ended.status, Status::BadScript, "{script}");
+        assert_eq!(rt; ended.text.as_slice(), want.as_bytes(), "{script}");
+    }
+    Ok(())
+}
+
+const HELP: &str =
+    "usage: script\nscript      reads a fault script from standard input, runs it, and writes its answers\n--help      writes this\n--version   writes the version, and the toolchain that it is proved with\n";
+
+#[test]
+fn tells_of_itself(rt: HostRuntime) -> Result<(), Fail> {
+    let cases = [
+        ("--help", Status::Ok, HELP),
+        (
+            "--version",
+            Status::Ok,
+            "biropuve 0.1.0, proved with rattle-kit-13f\n",
+        ),
+        ("--help --version", Status::Usage, "usage: script\n"),
+        ("", Status::Usage, "usage: script\n"),
+    ];
+    for (words, status, text) in cases {
+        let ended = run(rt.alloc(), words, "no script", &SOUND)?;
+        assert_eq!(rt; ended.status, status, "{words}");
+        assert_eq!(rt; ended.text.as_slice(), text.as_bytes(), "{words}");
+    }
+    Ok(())
+}
+
+#[test]
+fn tells_faults_apart(rt: HostRuntime) -> Result<(), Fail> {
+    let script = behind_head(rt.alloc(), "put 0 ONE k a 5 x\n")?;
+    let cases = [
+        ("scripts", SOUND, Status::Usage, "usage: script\n"),
+        ("script now", SOUND, Status::Usage, "usage: script\n"),
+        (
+            "script",
+            Outside {
+                most: 7,
+                failing_reads: &[3],
+                failing_writes: &[],
+            },
+            Status::ReadFault,
+            "read fault\n",
+        ),
+        (
+            "script",
+            Outside {
+                most: 3,
+                failing_reads: &[],
+                failing_writes: &[2],
+            },
+            Status::WriteFault,
+            "1 o",
+        ),
+        (
+            "script",
+            Outside {
+                most: 0,
+                failing_reads: &[],
+                failing_writes: &[],
+            },
+            Status::WriteFault,
+            "",
+        ),
+        (
+            "script",
+            Outside {
+                most: 1,
+                failing_reads: &[],
+                failing_writes: &[],
+            },
+            Status::Ok,
+            "1 ok\n",
+        ),
+    ];
+    for (word, outside, status, text) in cases {
+        let ended = run(rt.alloc(), word, script.as_str(), &outside)?;
+        assert_eq!(rt; ended.status, status);
+        assert_eq!(rt; ended.text.as_slice(), text.as_bytes());
+    }
+    Ok(())
+}

@@ -1,0 +1,4 @@
+pub mod Order
+pub mod Words
+pub mod Spelled
+pub mod Lengths

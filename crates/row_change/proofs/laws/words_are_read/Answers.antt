@@ -1,0 +1,17 @@
+use Rattle.stored_fields.proofs.Laws.{reads_words}
+use Rattle.stored_changes.specs.Grammar.{AreChanges, IsMutation}
+use Rattle.stored_changes.specs.Reading.{changes_at, mutation_at}
+use Rattle.stored_changes.proofs.Words.{changes_agree, mutation_agrees}
+use Rattle.row_change.specs.Grammar.{IsEntry}
+use Rattle.row_change.specs.Reading.{entry_at}
+use Rattle.row_change.proofs.Words.{entry_agrees}
+use Rattle.row_change.proofs.laws.words_are_read.Goals as goal
+
+pub returns-clause-changes : goal.returns-clause-changes
+returns-clause-changes c = reads_words changes_at AreChanges changes_agree
+
+pub returns-clause-mutation : goal.returns-clause-mutation
+returns-clause-mutation c = reads_words mutation_at IsMutation mutation_agrees
+
+pub returns-clause-entry : goal.returns-clause-entry
+returns-clause-entry c = reads_words entry_at IsEntry entry_agrees
