@@ -2,8 +2,6 @@
 #![tactic(auto)]
 
 mod content;
-#[cfg(test)]
-mod content_tests;
 mod lists;
 mod plain;
 mod ranges;

@@ -9,11 +9,7 @@ mod drafts;
 mod encoded;
 mod laws;
 mod order;
-#[cfg(test)]
-mod order_tests;
 mod storing;
-#[cfg(test)]
-mod tests;
 mod winning;
 
 use cs_base::{Bytes, Items, Micros, ReqId};

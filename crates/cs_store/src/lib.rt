@@ -11,8 +11,6 @@ mod mem_stores;
 mod plan;
 mod store;
 mod stores;
-#[cfg(test)]
-mod tests;
 
 pub use durable::{cut_durably, write_durably};
 pub use file_no::FileNo;

@@ -12,10 +12,3 @@ pub use response_bodies::{
     RowsMetadata, StringLists, SupportedOption, TableColumns, Unavailable, VariablesMetadata,
     WriteTimeout, WriteType, decode_response, encode_response,
 };
-
-#[cfg(test)]
-mod requests;
-#[cfg(test)]
-mod responses;
-#[cfg(test)]
-mod rows;

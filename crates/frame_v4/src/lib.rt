@@ -17,6 +17,3 @@ pub use frame::{Decoded, Frame, Frames};
 pub use framer::Framer;
 pub use laws::{each_is_read, first_frame, goes_on, one_reading, refusal_comes, refusal_stands};
 pub use writing::{write_frame, write_request};
-
-#[cfg(test)]
-mod tests;

@@ -3,8 +3,6 @@
 
 mod laws;
 mod state;
-#[cfg(test)]
-mod tests;
 
 pub use laws::reading_undoes_writing;
 pub use state::{PagingError, read_paging, write_paging};

@@ -9,8 +9,6 @@ mod item;
 mod laws;
 mod length;
 mod paxos;
-#[cfg(test)]
-mod tests;
 
 pub use changes::{Bound, Change, Held, Helds, Mutation, Partition, Place};
 pub use codec::{decode_entry, encode_entry};

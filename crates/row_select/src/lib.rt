@@ -4,8 +4,6 @@
 mod page;
 mod rows;
 mod select;
-#[cfg(test)]
-mod tests;
 
 pub use page::first_rows;
 pub use select::shown;

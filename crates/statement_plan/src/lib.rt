@@ -4,8 +4,6 @@
 mod fault;
 mod operation;
 mod plan;
-#[cfg(test)]
-mod tests;
 
 pub use fault::{Fault, Feature};
 pub use operation::{CellTest, CellTests, Compare, ConditionalOperation, Test, ValueOrder};

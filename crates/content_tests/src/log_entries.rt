@@ -1,6 +1,6 @@
 //! Words and refusals worked out by hand from the format, and what is near to a word.
 
-use crate::{
+use row_change::{
     CodecError, decode_changes, decode_entry, decode_mutation, encode_changes, encode_entry,
     encode_mutation,
 };

@@ -1,7 +1,7 @@
 ghost use Rattle.std.specs.Prelude.{◌+◌, ◌≤◌, length};
 
-use crate::{FileNo, MemStore, MemStores, Outcome, Store, Stores, TakeError};
 use cs_base::{Failed, NodeId};
+use cs_store::{FileNo, MemStore, MemStores, Outcome, Store, Stores, TakeError};
 use std::alloc::Global;
 use std::test::Fail;
 

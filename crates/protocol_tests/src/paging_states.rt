@@ -1,7 +1,7 @@
 //! States written and read, and bytes that are none, at their limits.
 
-use crate::{PagingError, read_paging, write_paging};
 use cs_base::Bytes;
+use page_state::{PagingError, read_paging, write_paging};
 use std::alloc::{AllocError, Global};
 use std::test::Fail;
 

@@ -1,8 +1,9 @@
+//! Frames in pieces: those of a connection, those of a driver, and what is refused.
+
 ghost use Rattle.std.specs.Prelude.{◌≤◌, length};
 
-use super::*;
-use crate::frame::Frames;
 use cs_base::Bytes;
+use frame_v4::{Decoded, Frame, FrameError, Framer, Frames, decode, write_frame, write_request};
 use std::alloc::{AllocError, Global};
 use std::test::*;
 

@@ -1,7 +1,7 @@
 //! Responses: bodies by hand.
 
 use crate::rows::word;
-use crate::{BodyError, decode_response, encode_response};
+use frame_bodies::{BodyError, decode_response, encode_response};
 use std::alloc::Global;
 use std::test::Fail;
 

@@ -1,6 +1,6 @@
 //! Worked pairs of changes, with what wins by Cassandra's rules; the order of places, and lengths as changes are stored.
 
-use crate::{Bound, Held, Place, encoded_length, in_order};
+use changes::{Bound, Held, Place, encoded_length, in_order};
 use cs_base::{Bytes, Micros, NodeId, ReqId};
 use std::alloc::{AllocError, Global};
 use std::test::Fail;

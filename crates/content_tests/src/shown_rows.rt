@@ -1,9 +1,9 @@
 //! Contents of a few rows, and what queries show of them.
 
-use crate::{first_rows, shown};
 use cell_merge::Content;
 use changes::{Bound, Held, Partition, Place, Query, ShownRow};
 use cs_base::{Bytes, Micros, NodeId, ReqId};
+use row_select::{first_rows, shown};
 use std::alloc::{AllocError, Global};
 use std::test::Fail;
 

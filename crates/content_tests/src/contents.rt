@@ -2,7 +2,7 @@
 
 ghost use Rattle.std.specs.Prelude.{◌<◌};
 
-use crate::{Content, PlainContent};
+use cell_merge::{Content, PlainContent};
 use changes::{Bound, Held, Place, in_order};
 use cs_base::{Bytes, Micros, NodeId, ReqId};
 use std::alloc::{AllocError, Global};

@@ -2,7 +2,7 @@
 
 ghost use Rattle.std.specs.Prelude.{◌≡◌};
 
-use crate::{Bound, Draft, DraftMutation, Held, Mutation, Partition, Place, Query};
+use changes::{Bound, Draft, DraftMutation, Held, Mutation, Partition, Place, Query};
 use cs_base::{Bytes, Items, Micros, NodeId, ReqId};
 use std::alloc::{AllocError, Global};
 use std::test::Fail;

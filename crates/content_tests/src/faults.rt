@@ -1,6 +1,6 @@
 //! Names of faults, and which of two is told.
 
-use crate::{Fault, Feature};
+use statement_plan::{Fault, Feature};
 use std::test::Fail;
 
 #[test]

@@ -1,8 +1,8 @@
 //! Requests: frames of the DataStax Python driver 3.25, and bodies by hand.
 
 use crate::rows::word;
-use crate::{BodyError, decode_request, encode_request};
 use cs_base::Bytes;
+use frame_bodies::{BodyError, decode_request, encode_request};
 use frame_v4::Frame;
 use std::alloc::Global;
 use std::test::Fail;
