@@ -10,8 +10,8 @@ use std::alloc::AllocError;
 /// The bytes of a length.
 const LENGTH: usize = 4;
 
-/// The length of a cell of 12 bytes, and they.
-const SHORT_CELL: usize = LENGTH + 12;
+/// The length of a cell of 16 bytes, and they: no number and no uuid is longer.
+const SHORT_CELL: usize = LENGTH + 16;
 
 /// Makes room for so many bytes behind a place, and as many as stand before it.
 #[cold]
