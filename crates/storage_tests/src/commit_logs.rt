@@ -5,7 +5,7 @@ ghost use Rattle.cs_store.specs.Disk.{IsSettled};
 ghost use Rattle.cs_store.specs.Mem.{disk_of, IsSameDisk};
 ghost use Rattle.gate_log.specs.Place.{IsAtRest};
 
-use crate::{CommitLog, LogEntries, LogError, ReserveError};
+use commit_log::{CommitLog, LogEntries, LogError, ReserveError};
 use cs_store::{FileNo, MemStore, Outcome, Store};
 use row_change::{LogEntry, decode_entry};
 use std::alloc::{AllocError, Global};
