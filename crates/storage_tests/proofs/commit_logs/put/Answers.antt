@@ -1,7 +1,7 @@
 use Rattle.std.proofs.Common.{ℕ, List, sym, subst}
 use Rattle.cs_store.specs.Disk.{Only, may_leave}
 use Rattle.cs_store.specs.Mem.{disk_of}
-use Rattle.commit_log.proofs.tests.put.Goals as goal
+use Rattle.storage_tests.proofs.commit_logs.put.Goals as goal
 
 pub returns : goal.returns
 returns c =

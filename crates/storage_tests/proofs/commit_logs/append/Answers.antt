@@ -1,4 +1,4 @@
-use Rattle.commit_log.proofs.tests.append.Goals as goal
+use Rattle.storage_tests.proofs.commit_logs.append.Goals as goal
 
 pub append-requires-clause-settled : goal.append-requires-clause-settled
 append-requires-clause-settled c honest =
