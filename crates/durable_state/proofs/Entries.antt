@@ -1,8 +1,8 @@
 -- Entries one after another.
-use Rattle.std.proofs.Common.{◌≡◌, ◌↔◌, List, [], ◌∷◌, ◌++◌, refl, sym, subst}
+use Rattle.std.proofs.Common.{List, [], ◌∷◌, ◌++◌, refl, subst}
 use Rattle.row_change.specs.declared.entry.LogItem.{LogItem}
 use Rattle.durable_state.specs.State.{Durable}
-use Rattle.durable_state.specs.Keeping.{TakesItem, Commits}
+use Rattle.durable_state.specs.Keeping.{Commits}
 use Rattle.durable_state.specs.Laws.{EntriesFollow}
 
 pub commits_both : (xs ys : List LogItem) (a b c : Durable) → Commits xs a b → Commits ys b c → Commits (xs ++ ys) a c

@@ -1,6 +1,5 @@
 -- To keep the same is an equivalence.
-use Rattle.std.proofs.Common.{◌≡◌, ◌↔◌, refl, sym, ◌∙◌}
-use Rattle.durable_state.specs.State.{Durable, IsSameKept}
+use Rattle.std.proofs.Common.{refl, sym, ◌∙◌}
 use Rattle.durable_state.specs.Laws.{KeptIsItself, KeptIsMutual, KeptIsPassedOn}
 
 pub same_itself : KeptIsItself

@@ -15,6 +15,6 @@ pub fn entries_follow_each_other()
 /// To keep the same is an equivalence.
 pub fn kept_is_an_equivalence()
     ensures itself { KeptIsItself }
-    ensures mutual { KeptIsMutual }
+    ensures back { KeptIsMutual }
     ensures passed_on { KeptIsPassedOn }
 {}

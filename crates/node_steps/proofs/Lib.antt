@@ -1,0 +1,4 @@
+mod Fitting
+mod Written
+pub mod Entries
+pub mod Failing
