@@ -1,0 +1,20 @@
+//! The laws of what is kept.
+
+ghost use Rattle.durable_state.specs.Laws.{EntriesFollow, KeptIsItself, KeptIsMutual, KeptIsPassedOn, WhatIsKeptIsOne};
+
+/// The same items make of the same state the same state, but for its order, and each change goes on to have one arrival.
+pub fn what_is_kept_is_one()
+    ensures { WhatIsKeptIsOne }
+{}
+
+/// What two entries make of a state is what the second makes of what the first makes of it.
+pub fn entries_follow_each_other()
+    ensures { EntriesFollow }
+{}
+
+/// To keep the same is an equivalence.
+pub fn kept_is_an_equivalence()
+    ensures itself { KeptIsItself }
+    ensures back { KeptIsMutual }
+    ensures passed_on { KeptIsPassedOn }
+{}
