@@ -1,4 +1,5 @@
 mod Fitting
 mod Written
+mod Answering
 pub mod Entries
 pub mod Failing

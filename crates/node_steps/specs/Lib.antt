@@ -5,6 +5,7 @@ pub mod Writes
 pub mod Reads
 pub mod Requests
 pub mod Replicas
+pub mod Answering
 pub mod Acts
 pub mod Steps
 pub mod Keeping
