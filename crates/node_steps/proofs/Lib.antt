@@ -1,5 +1,5 @@
 mod Fitting
-mod Written
+pub mod Written
 mod Answering
 pub mod Entries
 pub mod Failing
