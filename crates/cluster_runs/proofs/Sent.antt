@@ -1,5 +1,5 @@
 -- The nodes of a run are those of the ring, and what they sent fits where it comes to.
-use Rattle.std.proofs.Common.{◌≡◌, ℕ, zero, suc, ◌<◌, inl, inr, true, Option, Some, List, [], ◌∷◌, ◌++◌, length, refl, sym, ap, subst, ◌∙◌, arith, Contains}
+use Rattle.std.proofs.Common.{◌≡◌, ℕ, zero, suc, ◌<◌, inl, inr, true, Some, List, [], ◌∷◌, length, refl, ap, subst, ◌∙◌, arith, Contains}
 use Rattle.std.specs.Prelude.{slice_get, slice_set, replicate, IsTrue}
 use Rattle.std.proofs.lemmas.Bool.{lt-ltb}
 use Rattle.std.proofs.lemmas.List.Elements.{Contains-append_cases}
@@ -7,7 +7,6 @@ use Rattle.cs_base.proofs.Members.{contains_nil}
 use Rattle.changes.specs.declared.Held.{Held}
 use Rattle.peer_messages.specs.declared.message.Body.TheVariants.{ReadReply}
 use Rattle.peer_messages.specs.declared.message.Message.{Message}
-use Rattle.peer_messages.specs.declared.outcome.Outputs.{Outputs}
 use Rattle.peer_messages.specs.declared.event.Event.{Event}
 use Rattle.peer_messages.specs.declared.setting.Setting.{Setting}
 use Rattle.node_steps.specs.State.{fresh_node}

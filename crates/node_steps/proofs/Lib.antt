@@ -1,4 +1,5 @@
 mod Fitting
+mod ByKind
 pub mod Written
 mod Answering
 pub mod Entries

@@ -45,6 +45,7 @@ use Rattle.node_steps.specs.Steps.{NodeStep, matter_of, looked_at, time_after, m
 use Rattle.node_steps.specs.Keeping.{data_of, kept_by, kept_in, ceiling_in}
 use Rattle.node_steps.specs.Laws.{WhatIsKeptFits, WhatIsSentFits}
 use Rattle.node_steps.proofs.Fitting.{mutations_tested}
+use Rattle.node_steps.proofs.ByKind.{all_data, by_kind}
 
 -- the body fits, if a content that it brings does
 abbrev Fits : Setting → Body → Type 0
@@ -284,8 +285,10 @@ ceiling_fits true n = tt
 ceiling_fits false n = (tt, tt)
 
 pub kept_written : WhatIsKeptFits
-kept_written c me s e deeds o s' step =
-    items_both (flat_map (kept_in c) deeds) (ceiling_in s.ceiling s'.ceiling) (all_kept c me deeds (step_fits c me s e deeds o s' step)) (ceiling_fits (s.ceiling == s'.ceiling) s'.ceiling)
+kept_written c me s e deeds o s' step = (
+  items_both (flat_map (kept_in c) deeds) (ceiling_in s.ceiling s'.ceiling) (all_kept c me deeds (step_fits c me s e deeds o s' step)) (ceiling_fits (s.ceiling == s'.ceiling) s'.ceiling),
+  by_kind (flat_map (kept_in c) deeds) (s.ceiling == s'.ceiling) s'.ceiling (all_data c deeds),
+)
 
 -- ---- what is sent fits
 

@@ -5,6 +5,7 @@ use Rattle.changes.specs.declared.Held.{Held}
 use Rattle.changes.specs.declared.Mutation.{Mutation}
 use Rattle.stored_changes.specs.Spelling.{ChangesFit, MutationFits}
 use Rattle.row_change.specs.declared.entry.LogItem.{LogItem}
+use Rattle.row_change.specs.Grammar.{AreByKind}
 use Rattle.row_change.specs.Spelling.{ItemFits}
 use Rattle.peer_messages.specs.declared.event.Event.{Event}
 use Rattle.peer_messages.specs.declared.event.What.TheVariants.{Deliver}
@@ -30,10 +31,11 @@ ChangesAreTested = (xs : List Held) → IsTrue (changes_fit xs) ↔ ChangesFit x
 abbrev pub MutationsAreTested : Type 0
 MutationsAreTested = (m : Mutation) → IsTrue (mutation_fits m) ↔ MutationFits m
 
--- each item that a step keeps can be written
+-- each item that a step keeps can be written, and they stand in the order of their kinds
 abbrev pub WhatIsKeptFits : Type 0
 WhatIsKeptFits =
-    (c : Setting) (me : ℕ) (s : NodeState) (e : Event) (deeds : List Deed) (o : Outputs) (s' : NodeState) → NodeStep c me s e deeds o s' → AllByRecursion ItemFits (entry_of c s deeds s')
+    (c : Setting) (me : ℕ) (s : NodeState) (e : Event) (deeds : List Deed) (o : Outputs) (s' : NodeState) → NodeStep c me s e deeds o s'
+    → AllByRecursion ItemFits (entry_of c s deeds s') × AreByKind (entry_of c s deeds s')
 
 -- what a node of the ring sends fits where it comes to, if the content of a reply does
 abbrev pub WhatIsSentFits : Type 0
