@@ -4,3 +4,4 @@ pub mod Written
 mod Answering
 pub mod Entries
 pub mod Failing
+pub mod Leading

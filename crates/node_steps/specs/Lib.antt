@@ -10,4 +10,5 @@ pub mod Acts
 pub mod Steps
 pub mod Keeping
 pub mod Stops
+pub mod Leading
 pub mod Laws
