@@ -18,10 +18,10 @@ use Rattle.node_steps.specs.Acts.{Act, Rises, Hears, Asks, Marks, Incoming, Deed
 use Rattle.node_steps.specs.Acts.Chain.{begun, own, matter}
 use Rattle.node_steps.specs.Steps.{entries_of}
 use Rattle.cluster_runs.specs.Trace.{Scene, WasMade, MayTake, AreTold, entered, loser, Trace, moved}
-use Rattle.cluster_runs.proofs.Lists.{set_get, set_same, set_set, reverse_push, contains_flat, contains_from_flat}
+use Rattle.cs_base.proofs.Slots.{set_get, set_same, set_set}
+use Rattle.cs_base.proofs.Members.{reverse_push, contains_flat, contains_from_flat, contains_nil, contains_cases, contains_here, contains_there, contains_one}
 use Rattle.cluster_runs.proofs.Times.{timely}
 use Rattle.cluster_runs.proofs.Submissions.{SubmitNothing, Submits, rises_submits, hears_submits, matter_submits}
-use Rattle.cs_base.proofs.Members.{contains_nil, contains_cases, contains_here, contains_there, contains_one}
 
 -- the scene after these moves of node k, which is now at s'
 abbrev pub after : Scene → ℕ → Bool → List Deed → NodeState → Scene

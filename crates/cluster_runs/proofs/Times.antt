@@ -16,7 +16,8 @@ use Rattle.node_steps.specs.Replicas.{Asker}
 use Rattle.node_steps.specs.Requests.{refusal_of, Begins, BeginsOrRefuses}
 use Rattle.node_steps.specs.Acts.{Act, Rises, Hears, Asks, Marks, Incoming, Deed, Does, HearsBody, ceiling_after, is_old, asker_of, request_at}
 use Rattle.cluster_runs.specs.Trace.{Scene, Trace, begun, moved, wakes, forgets, free}
-use Rattle.cluster_runs.proofs.Lists.{get_set, all_same}
+use Rattle.cs_base.proofs.Slots.{get_set}
+use Rattle.cluster_runs.proofs.Lists.{all_same}
 use Rattle.cs_base.proofs.Members.{contains_nil, contains_cases}
 
 -- what a node's step rose to is not above its time, which stays below the ceiling

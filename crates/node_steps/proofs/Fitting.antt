@@ -1,5 +1,5 @@
 -- The tests of what can be written are those of its form.
-use Rattle.std.proofs.Common.{◌≡◌, ℕ, ◌↔◌, ◌^◌, Bool, true, false, Option, Some, None, List, [], ◌∷◌, length, refl, sym, subst}
+use Rattle.std.proofs.Common.{◌≡◌, ℕ, ◌↔◌, Bool, true, Option, Some, None, List, [], ◌∷◌, refl}
 use Rattle.std.specs.Prelude.{◌&&◌, IsTrue}
 use Rattle.std.specs.List.{list_all, AllByRecursion}
 use Rattle.std.specs.List.Sorted.{IsStrictlySortedBy}
@@ -8,13 +8,12 @@ use Rattle.std.specs.declared.cmp.Ordering.{Ordering}
 use Rattle.std.specs.declared.cmp.Ordering.TheVariants.{Less, Equal, Greater}
 use Rattle.std.proofs.lemmas.Bool.{and_parts, and_from, ltb-true, lt-ltb}
 use Rattle.changes.specs.declared.Held.{Held}
-use Rattle.changes.specs.declared.Mutation.{Mutation}
 use Rattle.changes.specs.declared.Place.{Place}
 use Rattle.changes.specs.declared.Place.TheVariants.{Cell, Marker, RowGone, RangeGone, PartGone}
 use Rattle.changes.specs.Places.{stored_cmp, AreInOrder}
 use Rattle.stored_fields.specs.Spelling.{FitsField}
-use Rattle.stored_changes.specs.Spelling.{PlaceFits, CellFits, ValueFits, ChangeFits, ChangesFit, MutationFits}
-use Rattle.node_steps.specs.Fitting.{is_short, place_fits, is_short_or_none, is_empty, is_none, value_fits, change_fits, are_in_order, changes_fit, mutation_fits}
+use Rattle.stored_changes.specs.Spelling.{PlaceFits, CellFits, ValueFits, ChangeFits}
+use Rattle.node_steps.specs.Fitting.{is_short, place_fits, is_short_or_none, is_empty, is_none, value_fits, change_fits, are_in_order, changes_fit}
 use Rattle.node_steps.specs.Laws.{ChangesAreTested, MutationsAreTested}
 
 -- a test and what it tests
@@ -79,8 +78,7 @@ order_tested (x ∷ xs) = both (list_all (λ y. is_lt (stored_cmp x y)) xs) (are
 pub changes_tested : ChangesAreTested
 changes_tested xs =
     let each = all_tested change_fits ChangeFits xs change_tested in
-    let rest = both (list_all change_fits xs) (are_in_order xs) _ _ each (order_tested xs) in
-    (
+    let rest = both (list_all change_fits xs) (are_in_order xs) _ _ each (order_tested xs) in (
       λ h. let parts = and_parts _ _ h in let more = rest.0 parts.1 in record { count = ltb-true _ _ parts.0; each = more.0; order = more.1 },
       λ h. and_from _ _ (lt-ltb _ _ h.count) (rest.1 (h.each, h.order)),
     )

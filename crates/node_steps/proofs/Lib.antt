@@ -1,4 +1,7 @@
 mod Fitting
-mod Written
+mod ByKind
+pub mod Written
+mod Answering
 pub mod Entries
 pub mod Failing
+pub mod Leading

@@ -5,8 +5,10 @@ pub mod Writes
 pub mod Reads
 pub mod Requests
 pub mod Replicas
+pub mod Answering
 pub mod Acts
 pub mod Steps
 pub mod Keeping
 pub mod Stops
+pub mod Leading
 pub mod Laws

@@ -1,6 +1,6 @@
 -- One step of one node: its time rises, then the event's own matter is taken with all that comes of it at the node itself.
 -- A message from too far ahead counts for nothing, and its time is not taken.
-use Rattle.std.specs.Prelude.{◌≡◌, ℕ, ◌+◌, ◌-◌, ◌^◌, ◌==◌, ◌||◌, not, nat_lt, min, max, if◌then◌else◌, Bool, true, false, Option, Some, None, List, [], ◌∷◌, map, filter, flat_map, length}
+use Rattle.std.specs.Prelude.{◌≡◌, ℕ, ◌+◌, ◌-◌, ◌^◌, ◌==◌, ◌||◌, not, nat_lt, min, max, if◌then◌else◌, Bool, false, Option, Some, None, List, [], ◌∷◌, map, filter, flat_map}
 use Rattle.cs_base.specs.declared.ids.ReqId.{ReqId}
 use Rattle.peer_messages.specs.declared.message.Message.{Message}
 use Rattle.peer_messages.specs.declared.event.Event.{Event}

@@ -18,6 +18,7 @@ use Rattle.changes.specs.Drafts.{mutation_of}
 use Rattle.changes.proofs.Orderings.{then_equal}
 use Rattle.changes.proofs.Ranks.{request_made}
 use Rattle.cs_base.proofs.Entries.{from_insert_entry}
+use Rattle.cs_base.proofs.Slots.{some_one}
 use Rattle.cs_base.proofs.Members.{contains_nil, contains_cases, contains_here, contains_from_map}
 use Rattle.peer_messages.specs.declared.event.Ask.{Ask}
 use Rattle.peer_messages.specs.declared.event.Plan.{Plan}
@@ -57,9 +58,6 @@ with_one sends e = record { sends = sends; entries = e ∷ [] }
 pub quiet_next : (c : Setting) (w : Scene) (k : ℕ) (lost : Bool) (a : Act) (s s' : NodeState) (sends : List Outbound) → Explains c (quietly w k a s s' (only_sends sends)) → Explains c (next w k lost a s (only_sends sends) s')
 quiet_next c w k true a s s' sends e = e
 quiet_next c w k false a s s' sends e = e
-
-pub some_one : {X : Type 0} {x y : X} → Some x ≡ Some y → x ≡ y
-some_one h = cc
 
 pub request_exact : (a b : ReqId) → request_cmp a b ≡ Equal → a ≡ b
 request_exact a b e = let both = then_equal (nat_cmp a.node b.node) _ e in request_made (exact_unsigned a.node b.node both.0) (exact_unsigned a.time b.time both.1)

@@ -38,14 +38,14 @@ use Rattle.node_steps.specs.Replicas.{replies}
 use Rattle.node_steps.specs.Acts.{Act, Incoming, HearsBody}
 use Rattle.cluster_runs.specs.Chronicle.{submission_of}
 use Rattle.cluster_runs.specs.Trace.{Scene, WasMade, loser}
-use Rattle.cluster_runs.proofs.Lists.{get_set}
+use Rattle.cs_base.proofs.Slots.{some_one, get_set}
 use Rattle.read_consistency.specs.ReadRight.{IsRightEntry}
 use Rattle.read_consistency.proofs.Facts.{WasBegun, Reaches, HasAll, IsQueryOf, Sees, Answers, ReplyOk, BodyIs, BodyOk, WriteOk, ReadOk, NodeOk, Explains}
 use Rattle.read_consistency.proofs.Grows.{Grows, begun_on, of_on, stands_in, write_on, read_on, submission_in}
 use Rattle.read_consistency.proofs.Reach.{grown, taken, source, slice_reached, merge_first, merge_second, merge_answers}
 use Rattle.read_consistency.proofs.Answer.{right_answer}
 use Rattle.read_consistency.proofs.Step.{none_some, quietly, telling, quietly_grows, telling_grows, explains_quietly, explains_telling}
-use Rattle.read_consistency.proofs.Cases.{next, only_sends, with_one, quiet_next, some_one, request_exact, same_case, none_sent, one_entry, node_later}
+use Rattle.read_consistency.proofs.Cases.{next, only_sends, with_one, quiet_next, request_exact, same_case, none_sent, one_entry, node_later}
 
 -- what comes to a node is known
 pub record Known (w : Scene) (m : Incoming) : Type 0 where

@@ -11,7 +11,7 @@ use Rattle.node_steps.specs.State.{NodeState, durable_of, loaded}
 use Rattle.node_steps.specs.Effects.{Effects}
 use Rattle.node_steps.specs.Acts.{Act, Deed}
 use Rattle.cluster_runs.specs.Trace.{Scene, forgetting}
-use Rattle.cluster_runs.proofs.Lists.{get_set}
+use Rattle.cs_base.proofs.Slots.{get_set}
 use Rattle.cs_base.proofs.Members.{contains_nil, contains_cases, contains_there, contains_map, contains_from_map}
 use Rattle.read_consistency.specs.ReadRight.{IsRightEntry}
 use Rattle.read_consistency.proofs.Facts.{Reaches, BodyOk, NodeOk, EntryOk, Explains}
