@@ -1,10 +1,14 @@
 -- A reply that a read can use, with those before it.
-use Rattle.std.specs.Prelude.{◌≡◌, ℕ, List, [], ◌∷◌, ◌++◌}
+use Rattle.std.specs.Prelude.{◌≡◌, ℕ, Bool, ◌==◌, List, [], ◌∷◌, ◌++◌}
+use Rattle.std.specs.List.{list_any}
 use Rattle.cs_base.specs.declared.ids.ReqId.{ReqId}
 use Rattle.changes.specs.declared.Held.{Held}
 use Rattle.peer_messages.specs.declared.outcome.Move.{Move}
 use Rattle.node_steps.specs.State.{OpenRead, Replied}
 use Rattle.node_steps.specs.Reads.{IsMergedInOrder, TellsRows}
+
+abbrev pub is_among : List Replied → ℕ → Bool
+is_among replies k = list_any (λ (x : Replied). x.from == k) replies
 
 abbrev pub replies_with : OpenRead → ℕ → List Held → List Replied
 replies_with r from content = r.replies ++ record { from = from; content = content } ∷ []

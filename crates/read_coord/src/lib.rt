@@ -3,12 +3,13 @@
 //! After Cassandra's documentation, "Dynamo: Tunable Consistency".
 #![tactic(auto)]
 
-ghost use Rattle.std.specs.Prelude.{◌≡◌, ◌∷◌, ◌++◌, [], nat_lt, IfOk, OnOk, OnErr, Contains};
+ghost use Rattle.std.specs.Prelude.{◌≡◌, ◌||◌, ◌∷◌, ◌++◌, [], not, nat_lt, map, IsTrue, IfOk, OnOk, OnErr};
 ghost use Rattle.cs_base.specs.Quorums.{is_in as is_in_of, heard_of as heard_of_count};
-ghost use Rattle.peer_messages.specs.Settings.{up_of};
+ghost use Rattle.peer_messages.specs.Settings.{up_of, replicas_of, needed};
 ghost use Rattle.peer_messages.specs.declared.message.Body.TheVariants.{Read};
 ghost use Rattle.node_steps.specs.Effects.{outbound, send_to};
-ghost use Rattle.node_steps.specs.Reads.{start_read, started_read, heard_by, IsMergedInOrder, HearsReply, read_at};
+ghost use Rattle.read_coord.specs.Keeping.{is_among};
+ghost use Rattle.node_steps.specs.Reads.{start_read, started_read, heard_by, replied_from, IsMergedInOrder, HearsReply, read_at};
 
 use cell_merge::Content;
 use changes::Query;
@@ -98,6 +99,33 @@ fn entered(alloc: Global, entry: Entry) -> Result<Entries, AllocError>
     Ok(entries)
 }
 
+/// Whether the node is among those that replied.
+fn is_among(replies: &[Reply], node: NodeId) -> bool
+    ensures { result ≡ is_among replies.now node }
+{
+    replies.iter().any(|reply| reply.from == node)
+}
+
+/// The nodes that replied, in order.
+fn repliers(alloc: Global, replies: &[Reply]) -> Result<NodeIds, AllocError>
+    ensures { IfOk result (λ nodes. nodes ≡ map replied_from replies.now) }
+{
+    let mut nodes = Items::new(alloc);
+    for reply in replies {
+        nodes.push(reply.from)?;
+    }
+    Ok(nodes)
+}
+
+/// The merge of replies, of which the first is copied.
+fn merge_of(alloc: Global, merged: &Content, content: Content) -> Result<Content, AllocError>
+    ensures { IfOk result (λ merge. IsMergedInOrder merge merged.now content) }
+{
+    let before = merged.copy(alloc)?;
+    let merge = content.merge(alloc, before)?;
+    Ok(merge)
+}
+
 /// What begins a read: it is entered, and each replica that is not marked down is asked.
 pub fn opening(
     alloc: Global,
@@ -120,7 +148,7 @@ pub fn opening(
 }
 
 impl ReadCoord {
-    ghost use Rattle.read_coord.specs.Keeping.{Keeps, Answers};
+    ghost use Rattle.read_coord.specs.Keeping.{replies_with, Keeps, Answers};
 
     /// The read as it begins, with its [`opening`]: no replica has replied.
     pub fn start(alloc: Global, level: Level, query: &Query) -> Result<ReadCoord, AllocError>
@@ -144,10 +172,11 @@ impl ReadCoord {
         }
     }
 
+    #[tactic(auto, using(crate::proofs::Replies::among_those))]
     fn has_replied(&self, node: NodeId) -> bool
         ensures { result ≡ is_in_of (heard_by self.now) node }
     {
-        self.replies.iter().any(|reply| reply.from == node)
+        is_among(&self.replies, node)
     }
 
     /// Whether the node has replied, where one more has.
@@ -168,23 +197,24 @@ impl ReadCoord {
     fn heard_with(&self, alloc: Global, from: NodeId) -> Result<NodeIds, AllocError>
         ensures { IfOk result (λ nodes. nodes ≡ heard_by self.now ++ from ∷ []) }
     {
-        let mut nodes = Items::new(alloc);
-        for reply in &self.replies {
-            nodes.push(reply.from)?;
-        }
+        let mut nodes = repliers(alloc, &self.replies)?;
         nodes.push(from)?;
         Ok(nodes)
     }
 
     /// The merge with one more reply. Only one that changes the merge costs a copy of it.
+    #[tactic(auto, using(crate::proofs::Replies::merge_of_none, crate::proofs::Replies::merge_of_same))]
     fn merged_with(&self, alloc: Global, content: Content) -> Result<Content, AllocError>
         ensures { IfOk result (λ merged. IsMergedInOrder merged self.now.merged content) }
     {
         let merged = self.merged();
-        if merged.is_empty() || merged.is_same(&content) {
+        if merged.is_empty() {
             return Ok(content);
         }
-        content.merge(alloc, merged.copy(alloc)?)
+        if merged.is_same(&content) {
+            return Ok(content);
+        }
+        merge_of(alloc, merged, content)
     }
 
     /// The answer that rests on the replies and on this one.
@@ -206,24 +236,89 @@ impl ReadCoord {
         )
     }
 
+    /// Puts a reply behind the others, which leaves the merge as it is.
+    #[tactic(auto, using(crate::proofs::Replies::first_stays))]
+    fn push(&mut self, from: NodeId, content: Content) -> Result<(), AllocError>
+        ensures ok { OnOk result (self.new ≡ record self.old { replies = replies_with self.old from content }) }
+        ensures err { OnErr result (self.new ≡ self.old) }
+    {
+        self.replies.push(Reply { from, content })?;
+        Ok(())
+    }
+
+    /// Puts the first reply there, whose content is the merge.
+    fn push_first(&mut self, from: NodeId, content: Content) -> Result<(), AllocError>
+        requires { self.old.replies ≡ [] }
+        ensures ok { OnOk result (self.new ≡ record self.old { replies = replies_with self.old from content; merged = content }) }
+        ensures err { OnErr result (self.new ≡ self.old) }
+    {
+        self.replies.push(Reply { from, content })?;
+        self.merged = None;
+        Ok(())
+    }
+
+    /// Whether there is no reply, and so no merge.
+    fn is_new(&self) -> bool
+        ensures { IsTrue result → (self.now.replies ≡ []) × (self.now.merged ≡ []) }
+    {
+        self.replies.is_empty() && self.merged().is_empty()
+    }
+
     /// Keeps a reply beside the others. An error leaves the read as it was.
+    #[tactic(auto, using(crate::proofs::Replies::keeps_same, crate::proofs::Replies::keeps_first))]
     fn keep(&mut self, alloc: Global, from: NodeId, content: Content) -> Result<(), AllocError>
         ensures ok { OnOk result (Keeps from content self.old self.new) }
         ensures err { OnErr result (self.new ≡ self.old) }
     {
         if self.merged().is_same(&content) {
-            self.replies.push(Reply { from, content })?;
-            return Ok(());
+            return self.push(from, content);
         }
-        if self.replies.is_empty() && self.merged().is_empty() {
-            self.replies.push(Reply { from, content })?;
-            self.merged = None;
-            return Ok(());
+        if self.is_new() {
+            return self.push_first(from, content);
         }
         let merged = self.merged_with(alloc, content.copy(alloc)?)?;
-        self.replies.push(Reply { from, content })?;
+        self.push(from, content)?;
         self.merged = Some(merged);
         Ok(())
+    }
+
+    /// Whether a reply of the node is none that the read can use: of no replica, or of one that has replied.
+    fn is_stray(&self, replicas: &[NodeId], from: NodeId) -> bool
+        ensures { result ≡ (is_in_of (heard_by self.now) from || not (is_in_of replicas.now from)) }
+    {
+        self.has_replied(from) || !is_in(replicas, from)
+    }
+
+    /// Whether the replies are too few, where one more is there.
+    fn waits(&self, setting: &Setting, replicas: &[NodeId], from: NodeId) -> bool
+        ensures { result ≡ nat_lt (heard_of_count replicas.now (heard_by self.now ++ from ∷ [])) (needed setting.now self.now.level self.now.query.partition) }
+    {
+        let needed = setting.needed(self.level, &self.query.partition);
+        self.received_with(replicas, from) < usize::from(needed)
+    }
+
+    #[tactic(auto, using(crate::proofs::Hearing::reply_strays))]
+    fn hear(
+        &mut self,
+        alloc: Global,
+        setting: &Setting,
+        replicas: &[NodeId],
+        request: ReqId,
+        from: NodeId,
+        content: Content,
+    ) -> Result<Move, AllocError>
+        requires { replicas.now ≡ replicas_of setting.now self.old.query.partition }
+        ensures ok { IfOk result (λ turn. HearsReply setting.now request from content self.old turn self.new) }
+        ensures err { OnErr result (self.new ≡ self.old) }
+    {
+        if self.is_stray(replicas, from) {
+            return Ok(Move::quiet(alloc));
+        }
+        if self.waits(setting, replicas, from) {
+            self.keep(alloc, from, content)?;
+            return Ok(Move::quiet(alloc));
+        }
+        self.answer(alloc, request, from, content)
     }
 
     /// Takes a node's reply to the request. That of a node that is no replica, and a repeated one, count for nothing.
@@ -240,15 +335,7 @@ impl ReadCoord {
         ensures err { OnErr result (self.new ≡ self.old) }
     {
         let replicas = setting.replicas(&self.query.partition);
-        if self.has_replied(from) || !is_in(replicas.as_slice(), from) {
-            return Ok(Move::quiet(alloc));
-        }
-        let needed = setting.needed(self.level, &self.query.partition);
-        if self.received_with(replicas.as_slice(), from) < usize::from(needed) {
-            self.keep(alloc, from, content)?;
-            return Ok(Move::quiet(alloc));
-        }
-        self.answer(alloc, request, from, content)
+        self.hear(alloc, setting, replicas.as_slice(), request, from, content)
     }
 
     /// How many of the replicas have replied.
