@@ -32,7 +32,7 @@ pub tells_rows : (id : ReqId) (from : ℕ) (content : List Held) (r : OpenRead) 
 tells_rows id from content r merged rows more heard turn merge shown is told =
     let next : OpenRead = record r { replies = replies_with r from content; merged = merged } in
     let answer : TellsRows id next turn =
-        (rows, more, shown, told ∙ ap (λ (ks : List ℕ). tells (Rows id rows more (record { heard = ks; merged = merged }))) (is ∙ sym (heard_more r from content))) in
+    (rows, more, shown, told ∙ ap (λ (ks : List ℕ). tells (Rows id rows more (record { heard = ks; merged = merged }))) (is ∙ sym (heard_more r from content))) in
     (merged, merge, answer)
 
 -- the test of strays, and the count, by the replicas that were worked out

@@ -190,7 +190,10 @@ impl ReadCoord {
     fn received_with(&self, replicas: &[NodeId], from: NodeId) -> usize
         ensures { result ≡ heard_of_count replicas.now (heard_by self.now ++ from ∷ []) }
     {
-        replicas.iter().filter(|node| self.is_heard(from, **node)).count()
+        replicas
+            .iter()
+            .filter(|node| self.is_heard(from, **node))
+            .count()
     }
 
     /// The replicas that replied, where one more has.
@@ -342,7 +345,10 @@ impl ReadCoord {
     fn received(&self, replicas: &[NodeId]) -> usize
         ensures { result ≡ heard_of_count replicas.now (heard_by self.now) }
     {
-        replicas.iter().filter(|node| self.has_replied(**node)).count()
+        replicas
+            .iter()
+            .filter(|node| self.has_replied(**node))
+            .count()
     }
 
     /// What the read is told at this time: nothing before its deadline, 5 seconds after its start, and from then on how
