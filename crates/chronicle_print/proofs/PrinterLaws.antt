@@ -8,7 +8,7 @@ use Rattle.changes.specs.declared.Partition.{Partition}
 use Rattle.schema_book.specs.declared.table.Table.{Table}
 use Rattle.statement_plan.specs.declared.plan.Columns.{Columns}
 use Rattle.peer_messages.specs.declared.chronicle.Entry.{Entry}
-use Rattle.peer_messages.specs.declared.chronicle.Entry.TheVariants.{Asked, Submitted, Acked, Refused, Used, Began, Rows, Time, Turned}
+use Rattle.peer_messages.specs.declared.chronicle.Entry.TheVariants.{Asked, Submitted, Acked, Refused, Used, Began, Rows, Time, Marks, Turned, Tables, Stopped}
 use Rattle.chronicle_print.specs.declared.printer.Printer.{Printer}
 use Rattle.chronicle_print.specs.Printed.{IsInPrint, IsEntryInPrint, AreRows, asked_count, number_of, shape_of, acked_line, used_line, refused_line}
 use Rattle.chronicle_print.specs.Printing.{number_in, place_in, started_by, started_in, start_at, shape_in, IsFresh, Adds, Takes}
@@ -89,8 +89,14 @@ has_printed_on tables entries place earlier (Rows request rows more grounds) old
     let s = spoken tables entries earlier (Rows request rows more grounds) lines old new by_both adds h in record { asked = s.asked; numbers = s.numbers; shapes = s.shapes; out = s.out }
 has_printed_on tables entries place earlier (Time node time) old new there t h =
     let s = silent tables entries earlier (Time node time) old new refl t h in record { asked = s.asked; numbers = s.numbers; shapes = s.shapes; out = s.out }
+has_printed_on tables entries place earlier (Marks node alive) old new there t h =
+    let s = silent tables entries earlier (Marks node alive) old new refl t h in record { asked = s.asked; numbers = s.numbers; shapes = s.shapes; out = s.out }
 has_printed_on tables entries place earlier (Turned node why) old new there t h =
     let s = spoken tables entries earlier (Turned node why) _ old new (ap (λ (n : ℕ). refused_line n why) h.asked) t h in record { asked = s.asked; numbers = s.numbers; shapes = s.shapes; out = s.out }
+has_printed_on tables entries place earlier (Tables node count) old new there t h =
+    let s = spoken tables entries earlier (Tables node count) _ old new refl t h in record { asked = s.asked; numbers = s.numbers; shapes = s.shapes; out = s.out }
+has_printed_on tables entries place earlier (Stopped node) old new there t h =
+    let s = spoken tables entries earlier (Stopped node) _ old new refl t h in record { asked = s.asked; numbers = s.numbers; shapes = s.shapes; out = s.out }
 
 same_upto : (old new : Printer) → new.asked ≡ old.asked → new.asked ≤ old.asked + 1
 same_upto old new e = omega (arith)
@@ -105,4 +111,7 @@ counts_upto tables entries place (Used request keyspace) old new t = same_upto o
 counts_upto tables entries place (Began request query level columns) old new t = same_upto old new t.asked
 counts_upto tables entries place (Rows request rows more grounds) old new (lines, are, adds) = same_upto old new adds.asked
 counts_upto tables entries place (Time node time) old new t = same_upto old new (ap (λ (p : Printer). p.asked) t)
+counts_upto tables entries place (Marks node alive) old new t = same_upto old new (ap (λ (p : Printer). p.asked) t)
 counts_upto tables entries place (Turned node why) old new t = same_upto old new t.asked
+counts_upto tables entries place (Tables node count) old new t = same_upto old new t.asked
+counts_upto tables entries place (Stopped node) old new t = same_upto old new t.asked

@@ -8,8 +8,8 @@ use Rattle.changes.specs.declared.Partition.{Partition}
 use Rattle.schema_book.specs.declared.table.Table.{Table}
 use Rattle.statement_plan.specs.declared.plan.Columns.{Columns}
 use Rattle.peer_messages.specs.declared.chronicle.Entry.{Entry}
-use Rattle.peer_messages.specs.declared.chronicle.Entry.TheVariants.{Asked, Submitted, Acked, Refused, Used, Began, Rows, Time, Turned}
-use Rattle.chronicle_print.specs.Printed.{acked_line, used_line, refused_line, AreRows}
+use Rattle.peer_messages.specs.declared.chronicle.Entry.TheVariants.{Asked, Submitted, Acked, Refused, Used, Began, Rows, Time, Marks, Turned, Tables, Stopped}
+use Rattle.chronicle_print.specs.Printed.{acked_line, used_line, refused_line, tables_line, stopped_line, AreRows}
 use Rattle.chronicle_print.specs.declared.printer.Printer.{Printer}
 
 -- the number under which the map has a request, or 0
@@ -79,4 +79,7 @@ Takes tables entries place old (Began request query level columns) new = Begins 
 Takes tables entries place old (Rows request rows more grounds) new =
     (lines : List ℕ) × AreRows tables (shape_in entries old.places request) (number_in old.numbers request) rows lines × Adds lines old new
 Takes tables entries place old (Time node time) new = new ≡ old
+Takes tables entries place old (Marks node alive) new = new ≡ old
 Takes tables entries place old (Turned node why) new = Adds (refused_line old.asked why) old new
+Takes tables entries place old (Tables node count) new = Adds (tables_line node count) old new
+Takes tables entries place old (Stopped node) new = Adds (stopped_line node) old new

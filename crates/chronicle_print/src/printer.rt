@@ -3,10 +3,10 @@
 ghost use Rattle.std.specs.Prelude.{◌≡◌, ◌<◌, ◌^◌, OnOk, IfOk, reverse};
 ghost use Rattle.chronicle_print.specs.Printed.{IsInPrint};
 
-use crate::lines::{push_acked, push_refused, push_used};
+use crate::lines::{push_acked, push_refused, push_stopped, push_tables, push_used};
 use crate::rows::push_rows;
 use changes::ShownRow;
-use cs_base::{ReqId, Text};
+use cs_base::{NodeId, ReqId, Text};
 use peer_messages::{Entry, Refusal};
 use schema_book::Table;
 use std::alloc::{AllocError, Global};
@@ -25,7 +25,7 @@ struct Printer {
 impl Printer {
     ghost use Rattle.std.specs.Prelude.{ℕ, List};
     ghost use Rattle.std.specs.Option.{option_copied};
-    ghost use Rattle.chronicle_print.specs.Printed.{acked_line, used_line, refused_line, AreRows};
+    ghost use Rattle.chronicle_print.specs.Printed.{acked_line, used_line, refused_line, tables_line, stopped_line, AreRows};
     ghost use Rattle.chronicle_print.specs.Printing.{number_in, place_in, start_at, shape_in, IsFresh, Counts, Begins, Adds, Takes};
 
     fn new(alloc: Global) -> Printer
@@ -109,6 +109,18 @@ impl Printer {
         push_refused(alloc, &mut self.out, number, refusal)
     }
 
+    fn count_tables(&mut self, alloc: Global, node: NodeId, count: u32) -> Result<(), AllocError>
+        ensures { OnOk result (Adds (tables_line node count) self.old self.new) }
+    {
+        push_tables(alloc, &mut self.out, node, count)
+    }
+
+    fn stop(&mut self, alloc: Global, node: NodeId) -> Result<(), AllocError>
+        ensures { OnOk result (Adds (stopped_line node) self.old self.new) }
+    {
+        push_stopped(alloc, &mut self.out, node)
+    }
+
     fn take(
         &mut self,
         alloc: Global,
@@ -133,7 +145,9 @@ impl Printer {
             }
             // the request that came last
             Entry::Turned(_, refusal) => self.refuse(alloc, self.asked, *refusal),
-            Entry::Submitted(_, _) | Entry::Time(_, _) => Ok(()),
+            Entry::Tables(node, count) => self.count_tables(alloc, *node, *count),
+            Entry::Stopped(node) => self.stop(alloc, *node),
+            Entry::Submitted(_, _) | Entry::Time(_, _) | Entry::Marks(_, _) => Ok(()),
         }
     }
 }
@@ -143,10 +157,12 @@ impl Printer {
 ///
 /// Each answer is a line: the number of its request, and `ok`, `rows N`, `keyspace NAME`,
 /// `unavailable required A alive B`, `write-timeout received A blockfor B SIMPLE`,
-/// `read-timeout received A blockfor B data D` (1 where a replica replied, or else 0), `overloaded`, or `invalid` and the
-/// reason's name. Behind `rows N` come N lines, one a
-/// row: a space and the values that the read's statement shows, as CQL literals with ` | ` between them, or `null` for no
-/// value. A count is one row with one number.
+/// `read-timeout received A blockfor B data D` (1 where a replica replied, or else 0), `overloaded`, `down` (the node does
+/// not run), or `invalid` and the reason's name. Behind `rows N` come N lines, one a row: a space and the values that the
+/// read's statement shows, as CQL literals with ` | ` between them, or `null` for no value. A count is one row with one
+/// number.
+///
+/// Of a node itself two things are told: `tables NODE N`, and `stopped NODE` where its store failed.
 ///
 /// A request's number is its place among all that came, from 1 on. One that its node could not begin has a number too;
 /// of an id that came twice the last request counts; an answer to none has the number 0.

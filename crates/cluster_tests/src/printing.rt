@@ -186,6 +186,13 @@ fn prints_a_chronicle(rt: HostRuntime) -> Result<(), Fail> {
     Ok(())
 }
 
+const REFUSALS: &[u8] = b"1 invalid SerialWrite
+2 invalid Level
+3 invalid UnknownTable
+4 invalid PartitionTooLarge
+5 invalid NotSupported
+";
+
 #[test]
 fn names_refusals(rt: HostRuntime) -> Result<(), Fail> {
     let alloc = rt.alloc();
@@ -195,14 +202,32 @@ fn names_refusals(rt: HostRuntime) -> Result<(), Fail> {
         Invalid::SerialWrite,
         Invalid::Level,
         Invalid::UnknownTable,
+        Invalid::PartitionTooLarge,
         Invalid::Statement(unsupported),
     ] {
         entries.push(Entry::Asked(None))?;
         entries.push(Entry::Turned(NodeId::FIRST, Refusal::Invalid(why)))?;
     }
     let text = print_chronicle(alloc, &[], &entries)?;
-    let want =
-        b"1 invalid SerialWrite\n2 invalid Level\n3 invalid UnknownTable\n4 invalid NotSupported\n";
+    assert_eq!(rt; text.as_slice(), REFUSALS);
+    Ok(())
+}
+
+/// A node that stops at a request, is turned to while it does not run, and has tables once it runs again.
+#[test]
+fn tells_of_nodes(rt: HostRuntime) -> Result<(), Fail> {
+    let alloc = rt.alloc();
+    let node = NodeId::new(6).ok_or("no such node")?;
+    let mut entries = Vec::new(alloc);
+    entries.push(Entry::Asked(Some(id(7))))?;
+    entries.push(submitted(alloc, id(7))?)?;
+    entries.push(Entry::Stopped(node))?;
+    entries.push(Entry::Asked(None))?;
+    entries.push(Entry::Turned(node, Refusal::Down))?;
+    entries.push(Entry::Marks(node, Items::new(alloc)))?;
+    entries.push(Entry::Tables(node, u32::MAX))?;
+    let text = print_chronicle(alloc, &[], &entries)?;
+    let want = b"stopped 6\n2 down\ntables 6 4294967295\n";
     assert_eq!(rt; text.as_slice(), want.as_slice());
     Ok(())
 }

@@ -31,6 +31,13 @@ IsAtNodes nodes (event.Cql request) = request.node < nodes
 IsAtNodes nodes (event.Deliver place) = IsBetweenNodes nodes place
 IsAtNodes nodes (event.Drop place) = IsBetweenNodes nodes place
 IsAtNodes nodes (event.Settle count) = Unit {0}
+IsAtNodes nodes (event.Clock node micros) = node < nodes
+IsAtNodes nodes (event.Crash node outcome) = node < nodes
+IsAtNodes nodes (event.StopAt node call outcome) = node < nodes
+IsAtNodes nodes (event.FailAt node call) = node < nodes
+IsAtNodes nodes (event.Restart node) = node < nodes
+IsAtNodes nodes (event.Flush node) = node < nodes
+IsAtNodes nodes (event.Merge node) = node < nodes
 
 abbrev pub EventsAreAtNodes : Type 0
 EventsAreAtNodes = (text : List ℕ) (script : Script) → IsRead text (Ok script) → All (IsAtNodes (length script.ring)) script.events
