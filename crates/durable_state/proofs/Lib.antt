@@ -1,3 +1,5 @@
 mod Kept
 pub mod Same
 pub mod Entries
+mod Deciding
+pub mod Making

@@ -14,6 +14,10 @@ WhatIsKeptIsOne =
 abbrev pub EntriesFollow : Type 0
 EntriesFollow = (xs ys : List LogItem) (a c : Durable) → Commits (xs ++ ys) a c ↔ ((b : Durable) × Commits xs a b × Commits ys b c)
 
+-- whatever is kept, items make some state of it
+abbrev pub EachEntryMakesAState : Type 0
+EachEntryMakesAState = (items : List LogItem) (d : Durable) → (d' : Durable) × Commits items d d'
+
 abbrev pub KeptIsItself : Type 0
 KeptIsItself = (d : Durable) → IsSameKept d d
 

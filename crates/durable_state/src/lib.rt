@@ -7,5 +7,8 @@
 mod laws;
 mod parts;
 
-pub use laws::{entries_follow_each_other, kept_is_an_equivalence, what_is_kept_is_one};
+pub use laws::{
+    each_entry_makes_a_state, entries_follow_each_other, kept_is_an_equivalence,
+    what_is_kept_is_one,
+};
 pub use parts::{LastNumber, RowAt};
