@@ -19,7 +19,7 @@ ghost use Rattle.durable_state.specs.Keeping.{IsWithOrWithout};
 ghost use Rattle.replica.specs.declared.merge.MergeJob.{MergeJob as merge_job};
 ghost use Rattle.replica.specs.Calls.{Committed, Looked};
 ghost use Rattle.replica.specs.Finding.{AlwaysLeaves, IsSafe};
-ghost use Rattle.replica.specs.Kept.{IsKeptOf, IsInOrder, IsKeptAfter, ArriveAllAt, PurgeNothing};
+ghost use Rattle.replica.specs.Kept.{IsKeptOf, IsInOrder, IsKeptAfter, ArriveAllAt, ArriveAtOnce, PurgeNothing};
 ghost use Rattle.replica.specs.Lengths.{PassesLog, IsFirstTooLarge, AllStaySmall, added_length, is_flush_due, with_added};
 ghost use Rattle.replica.specs.Merges.{told_purges, with_purges};
 ghost use Rattle.replica.specs.declared.error.RoomError.TheVariants as room_error;
@@ -204,6 +204,7 @@ pub trait Replica: Drop {
     fn flush(&mut self, alloc: Global, step: &LogEntry, kept: &Kept) -> Result<u32, CallError>
         requires granted { is_granted self.old step.now }
         requires whole { is_whole self.old }
+        requires arrival { ArriveAtOnce step.now.items }
         requires kept { Self.Disk.is_honest → IsKeptAfter step.now.items (durable self.old) kept.now }
 
         ensures ok { OnOk result (Self.Disk.is_honest → Committed stands_for (λ r. Self.Disk.disk (disk r)) durable step.now.items self.old self.new) }
@@ -258,6 +259,7 @@ pub trait Replica: Drop {
     ) -> Result<Purges, FinishError>
         requires granted { is_granted self.old step.now }
         requires whole { is_whole self.old }
+        requires arrival { ArriveAtOnce step.now.items }
         requires kept { Self.Disk.is_honest → IsKeptAfter step.now.items (durable self.old) kept.now }
         requires merging { is_merging self.old merge.job }
 
