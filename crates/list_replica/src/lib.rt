@@ -2,5 +2,7 @@
 #![tactic(auto)]
 
 mod contents;
+mod rows;
 
 pub use contents::{Contents, between, partitions, reserve, take_in};
+pub use rows::{Rows, reserve_row, set_row};
