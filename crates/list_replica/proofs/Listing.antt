@@ -1,9 +1,8 @@
 -- The partitions of which something is held.
-use Rattle.std.proofs.Common.{◌≡◌, ◌↔◌, inl, inr, Bool, true, false, Option, Some, List, [], ◌∷◌, ◌++◌, Contains, refl, sym, ◌∙◌, ap, subst}
-use Rattle.std.specs.Prelude.{filter, map, ◌&&◌, not, if◌then◌else◌, IsTrue}
+use Rattle.std.proofs.Common.{◌≡◌, ◌↔◌, Bool, true, false, Option, List, [], ◌∷◌, Contains, refl, sym, ◌∙◌, ap, subst}
+use Rattle.std.specs.Prelude.{filter, map, ◌&&◌, if◌then◌else◌, IsTrue}
 use Rattle.std.specs.Map.{keys_of}
 use Rattle.std.specs.List.Sorted.{IsStrictlySortedBy}
-use Rattle.std.specs.Ordering.{eq_by_cmp}
 use Rattle.std.specs.declared.cmp.Ordering.TheVariants.{Less}
 use Rattle.std.specs.BTreeMap.{BTreeMap, get, IsOrdered}
 use Rattle.std.proofs.lemmas.Cmp.{eq_by_cmp_equiv}
@@ -19,7 +18,7 @@ use Rattle.changes.specs.Totals.{partition_total}
 use Rattle.changes.proofs.Sorted.{all_at, all_from}
 use Rattle.partition_content.specs.declared.Arrived.{Arrived}
 use Rattle.partition_content.specs.Arrivals.{held_of}
-use Rattle.partition_content.specs.Partition.{Partition as Content, changes_in}
+use Rattle.partition_content.specs.Partition.{Partition as Content}
 use Rattle.durable_state.specs.State.{changes_of, Holds}
 use Rattle.list_replica.specs.Stores.{all_of, stored_if, stored_at, has_any, is_listed, listed}
 use Rattle.list_replica.proofs.Looking.{holds_from, holds_to, same_partition, found_in}

@@ -1,12 +1,12 @@
 -- Rows, by the look-up of a partition.
-use Rattle.std.proofs.Common.{◌≡◌, ◌≢◌, ◌⊎◌, inl, inr, Bool, true, false, cond, Option, Some, None, List, [], ◌∷◌, ◌++◌, refl, sym, ◌∙◌, ap, subst, Contains}
-use Rattle.std.specs.Prelude.{if◌then◌else◌, IsSome}
+use Rattle.std.proofs.Common.{◌≡◌, ◌≢◌, Bool, true, false, cond, Option, Some, None, List, [], ◌∷◌, ◌++◌, refl, sym, ◌∙◌, ap, subst, Contains}
+use Rattle.std.specs.Prelude.{if◌then◌else◌}
 use Rattle.std.specs.Map.{lookup, keys_of}
 use Rattle.std.specs.List.Sorted.{IsStrictlySortedBy}
 use Rattle.std.specs.Ordering.{is_eq, match_ordering}
 use Rattle.std.specs.declared.cmp.Ordering.{Ordering}
 use Rattle.std.specs.declared.cmp.Ordering.TheVariants.{Less, Equal, Greater}
-use Rattle.std.specs.BTreeMap.{BTreeMap, is_at, get, insert_entry, IsOrdered, Updates}
+use Rattle.std.specs.BTreeMap.{BTreeMap, is_at, get, insert_entry, IsOrdered}
 use Rattle.std.proofs.lemmas.Cmp.{tied_itself}
 use Rattle.cs_base.proofs.Members.{contains_here, contains_there}
 use Rattle.changes.specs.declared.Partition.{Partition}
@@ -21,7 +21,6 @@ use Rattle.durable_state.specs.Partitions.{is_partition}
 use Rattle.durable_state.specs.State.{row_at}
 use Rattle.durable_state.specs.Keeping.{SetsRow}
 use Rattle.list_replica.specs.Rows.{row_if, row_in, rows_of}
-use Rattle.list_replica.proofs.Looking.{away}
 
 abbrev Entries : Type 0
 Entries = List (Partition × Option PaxosRow)

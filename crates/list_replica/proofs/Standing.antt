@@ -1,12 +1,11 @@
 -- What the file of a log stands for, and what crashes leave of it.
-use Rattle.std.proofs.Common.{◌≡◌, ◌≢◌, ◌⊎◌, inl, inr, ℕ, List, [], ◌∷◌, ◌++◌, refl, sym, ◌∙◌, ap, subst, arith}
+use Rattle.std.proofs.Common.{◌≡◌, inl, inr, ℕ, List, [], ◌∷◌, ◌++◌, refl, sym, ◌∙◌, subst, arith}
 use Rattle.std.specs.Prelude.{map}
 use Rattle.std.proofs.lemmas.List.{map-append}
-use Rattle.cs_store.specs.Disk.{Disk, IsSettled, IsImage, Stays, SameFiles, Passes, LeavesOnly, LeavesAll}
+use Rattle.cs_store.specs.Disk.{Disk, IsSettled, Stays, Passes, LeavesOnly}
 use Rattle.cs_store.specs.Images.{formatted_bytes}
 use Rattle.cs_store.proofs.Crashes.{first_call, files_left, all_weaker}
-use Rattle.gate_log.specs.Format.{Reads}
-use Rattle.commit_log.specs.Format.{ReadsEntries, IsDamaged, IsOneReading, Adds, IsBeforeOrAfter, ReadsAlike}
+use Rattle.commit_log.specs.Format.{ReadsEntries, IsOneReading, Adds, IsBeforeOrAfter, ReadsAlike}
 use Rattle.row_change.specs.declared.entry.LogEntry.{LogEntry}
 use Rattle.row_change.specs.declared.entry.LogItem.{LogItem}
 use Rattle.durable_state.specs.State.{Durable, IsSameKept, formatted}

@@ -1,4 +1,4 @@
-use Rattle.std.proofs.Common.{◌≡◌, ◌∙◌, ap, Option, Some}
+use Rattle.std.proofs.Common.{◌∙◌, ap, Option, Some}
 use Rattle.row_change.specs.declared.entry.PaxosRow.{PaxosRow}
 use Rattle.list_replica.proofs.Looking.{away}
 use Rattle.list_replica.proofs.RowLooking.{sets}
