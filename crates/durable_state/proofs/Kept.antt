@@ -41,7 +41,7 @@ takes_same a b a' b' p ms to back s t q x h = elim (same_or_apart q p) [
 same_changes : (a b : List Stored) → ((x : Stored) → Contains a x → Contains b x) → HasAll (changes_of a) (changes_of b)
 same_changes a b to p x h = let y = contains_from_map change_of a _ h in subst (λ (z : Change). Contains (changes_of b) z) y.2 (contains_map change_of b y.0 (to y.0 y.1))
 
-one_stored : (x y : Stored) → change_of x ≡ change_of y → x.arrival ≡ y.arrival → x ≡ y
+pub one_stored : (x y : Stored) → change_of x ≡ change_of y → x.arrival ≡ y.arrival → x ≡ y
 one_stored x y change arrival =
     ap (λ (z : Change). let w : Stored = record { partition = z.partition; held = z.held; arrival = x.arrival } in w) change
     ∙ ap (λ (n : ℕ). let w : Stored = record { partition = y.partition; held = y.held; arrival = n } in w) arrival
@@ -67,7 +67,7 @@ arrives_same t a b a' b' back to one s r changes x h =
     ] in
     subst (λ (z : Stored). Contains b' z) is found.1
 
-arrives_one : (t : ℕ) (a a' : List Stored) → HasOneArrival a → ArriveAt t a a' → HasOneArrival a'
+pub arrives_one : (t : ℕ) (a a' : List Stored) → HasOneArrival a → ArriveAt t a a' → HasOneArrival a'
 arrives_one t a a' one s x y h k same = elim (s x h) [
   | inl old ↦ elim (s y k) [
     | inl older ↦ one x y old older same

@@ -2,6 +2,7 @@
 use Rattle.std.specs.Prelude.{◌≡◌, ◌≢◌, ◌↔◌, ◌⊎◌, ℕ, List, Contains}
 use Rattle.changes.specs.declared.Change.{Change}
 use Rattle.changes.specs.declared.Held.{Held}
+use Rattle.changes.specs.declared.Mutation.{Mutation}
 use Rattle.changes.specs.declared.Partition.{Partition}
 use Rattle.changes.specs.Contents.{Either, IsContent}
 use Rattle.durable_state.specs.State.{Stored, change_of, changes_of, Holds}
@@ -21,6 +22,19 @@ pub record TakesIn (content : List Change) (p : Partition) (changes : List Held)
 abbrev pub ArriveAt : ℕ → List Stored → List Stored → Type 0
 ArriveAt time content content' =
     (x : Stored) → Contains content' x → Contains content x ⊎ ((Contains (changes_of content) (change_of x) → ⊥) × (x.arrival ≡ time))
+
+-- one of the mutations is of the partition
+abbrev pub IsTouched : List Mutation → Partition → Type 0
+IsTouched ms p = (m : Mutation) × Contains ms m × (m.partition ≡ p)
+
+-- one of the mutations has the change of the partition
+abbrev pub InOne : List Mutation → Partition → Held → Type 0
+InOne ms p x = (m : Mutation) × Contains ms m × (m.partition ≡ p) × Contains m.changes x
+
+-- mutations taken in together: of each partition that they touch the content of all their changes and those held there
+pub record TakesAll (content : List Change) (ms : List Mutation) (content' : List Change) : Type 0 where
+  pub each : (p : Partition) → IsTouched ms p → (kept : List Held) × IsHeldOf content' p kept × IsContent kept (Either (Holds content p) (InOne ms p))
+  pub others : (q : Partition) (x : Held) → (IsTouched ms q → ⊥) → Holds content' q x ↔ Holds content q x
 
 -- each change is held with one arrival
 abbrev pub HasOneArrival : List Stored → Type 0

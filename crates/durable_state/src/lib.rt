@@ -8,7 +8,7 @@ mod laws;
 mod parts;
 
 pub use laws::{
-    each_entry_makes_a_state, entries_follow_each_other, kept_is_an_equivalence,
-    what_is_kept_is_one,
+    data_is_taken_together, each_entry_makes_a_state, entries_follow_each_other,
+    kept_is_an_equivalence, what_is_kept_is_one,
 };
 pub use parts::{LastNumber, RowAt};

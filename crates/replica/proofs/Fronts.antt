@@ -7,7 +7,7 @@ use Rattle.row_change.specs.declared.entry.LogItem.{LogItem}
 use Rattle.durable_state.specs.State.{Durable, IsSameKept}
 use Rattle.durable_state.specs.Keeping.{Commits, IsWithOrWithout}
 use Rattle.replica.specs.Finding.{StandFor, AlwaysLeaves, IsSafe}
-use Rattle.replica.specs.Calls.{CommitEach, IsAfterFront, Calls, CrashesLeaveAFront}
+use Rattle.replica.specs.Calls.{CommitEach, IsAfterFront, Looked, Calls, CrashesLeaveAFront}
 use Rattle.replica.specs.Calls.Calls.{none, looks, commits}
 
 abbrev Meaning : Type 1
@@ -39,6 +39,22 @@ pub safe_after : (st : Meaning) (d d' : Durable) (old new : Disk) → AlwaysLeav
 safe_after st d d' old new h same files image =
     let later = h.on.later in
     subst (λ (x : Durable). StandFor st (IsSameKept x) files) (sym same) (h.files new.moment files later (omega arith) image)
+
+-- ---- room and then a commit
+
+-- a call that changed nothing, before a commit that is not made
+pub looked_leaves : {R : Type 0} (st : Meaning) (disk : R → Disk) (durable : R → Durable) (entry : List LogItem) (old new : R) → Looked st disk durable old new
+    → AlwaysLeaves st (IsWithOrWithout entry (durable old)) (disk old) (disk new)
+looked_leaves {R} st disk durable entry old new looked =
+    leaves_more st (IsSameKept (durable old)) (IsWithOrWithout entry (durable old)) (disk old) (disk new) (λ d same. inl same) looked.leaves
+
+-- and before one that is tried
+pub looked_then : {R : Type 0} (st : Meaning) (disk : R → Disk) (durable : R → Durable) (entry : List LogItem) (old mid new : R) → Looked st disk durable old mid
+    → AlwaysLeaves st (IsWithOrWithout entry (durable mid)) (disk mid) (disk new) → AlwaysLeaves st (IsWithOrWithout entry (durable old)) (disk old) (disk new)
+looked_then {R} st disk durable entry old mid new looked tries =
+    leaves_on st (IsWithOrWithout entry (durable old)) (disk old) (disk mid) (disk new)
+    (looked_leaves st disk durable entry old mid looked)
+    (subst (λ (d : Durable). AlwaysLeaves st (IsWithOrWithout entry d) (disk mid) (disk new)) looked.same tries)
 
 -- ---- entries one after another
 

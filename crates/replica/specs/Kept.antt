@@ -46,6 +46,10 @@ ArrivesAt time i = Unit {0}
 abbrev pub ArriveAllAt : ℕ → List LogItem → Type 0
 ArriveAllAt time items = AllByRecursion (ArrivesAt time) items
 
+-- they came at one time
+abbrev pub ArriveAtOnce : List LogItem → Type 0
+ArriveAtOnce items = (time : ℕ) × ArriveAllAt time items
+
 abbrev pub IsNoPurge : LogItem → Type 0
 IsNoPurge (Purge x) = ⊥
 IsNoPurge i = Unit {0}

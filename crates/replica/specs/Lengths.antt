@@ -1,5 +1,5 @@
 -- When an entry is refused for its length, and when a flush is due.
-use Rattle.std.specs.Prelude.{◌≡◌, ℕ, ◌+◌, ◌^◌, ◌<◌, Bool, ◌&&◌, not, false, nat_lt, Option, Some, None, List, ◌∷◌, ◌++◌, Contains}
+use Rattle.std.specs.Prelude.{◌≡◌, ℕ, ◌+◌, ◌^◌, ◌<◌, ◌≤◌, Bool, ◌&&◌, not, false, nat_lt, Option, Some, None, List, ◌∷◌, ◌++◌, Contains}
 use Rattle.changes.specs.declared.Held.{Held}
 use Rattle.changes.specs.declared.Mutation.{Mutation}
 use Rattle.changes.specs.declared.Partition.{Partition}
@@ -47,13 +47,17 @@ IsListOf d p part = IsHeldOf (changes_of d.content) p part × AreInOrder part
 abbrev pub IsOf : List LogItem → Partition → Type 0
 IsOf items p = (arrival : ℕ) × (m : Mutation) × Contains items (Data arrival m) × (m.partition ≡ p)
 
--- behind the items, what is held of the partition would pass 16 MiB as it is stored
+-- behind the items, what is held of the partition passes 16 MiB as it is stored
 abbrev pub GrowsTooLarge : List LogItem → Durable → Partition → Type 0
 GrowsTooLarge items before p = (after : Durable) (part : List Held) → Commits items before after → IsListOf after p part → 2 ^ 24 < changes_length part
 
--- no partition of which the items have changes grows too large
-abbrev pub NoneGrowsTooLarge : List LogItem → List LogItem → Durable → Type 0
-NoneGrowsTooLarge some items before = (p : Partition) → IsOf some p → GrowsTooLarge items before p → ⊥
+-- or it stays within
+abbrev pub StaysSmall : List LogItem → Durable → Partition → Type 0
+StaysSmall items before p = (after : Durable) (part : List Held) → Commits items before after → IsListOf after p part → changes_length part ≤ 2 ^ 24
+
+-- each partition of which some of the items have changes stays within
+abbrev pub AllStaySmall : List LogItem → List LogItem → Durable → Type 0
+AllStaySmall some items before = (p : Partition) → IsOf some p → StaysSmall items before p
 
 -- of the partitions of which the items have changes, it is the first that grows too large
 pub record IsFirstTooLarge (items : List LogItem) (before : Durable) (p : Partition) : Type 0 where
@@ -64,4 +68,4 @@ pub record IsFirstTooLarge (items : List LogItem) (before : Durable) (p : Partit
   pub split : items ≡ front ++ Data arrival mutation ∷ rest
   pub of : mutation.partition ≡ p
   pub large : GrowsTooLarge items before p
-  pub first : NoneGrowsTooLarge front items before
+  pub first : AllStaySmall front items before

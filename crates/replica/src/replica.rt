@@ -19,8 +19,8 @@ ghost use Rattle.durable_state.specs.Keeping.{IsWithOrWithout};
 ghost use Rattle.replica.specs.declared.merge.MergeJob.{MergeJob as merge_job};
 ghost use Rattle.replica.specs.Calls.{Committed, Looked};
 ghost use Rattle.replica.specs.Finding.{AlwaysLeaves, IsSafe};
-ghost use Rattle.replica.specs.Kept.{IsKeptOf, IsInOrder, IsKeptAfter, ArriveAllAt, PurgeNothing};
-ghost use Rattle.replica.specs.Lengths.{PassesLog, IsFirstTooLarge, NoneGrowsTooLarge, added_length, is_flush_due, with_added};
+ghost use Rattle.replica.specs.Kept.{IsKeptOf, IsInOrder, IsKeptAfter, ArriveAllAt, ArriveAtOnce, PurgeNothing};
+ghost use Rattle.replica.specs.Lengths.{PassesLog, IsFirstTooLarge, AllStaySmall, added_length, is_flush_due, with_added};
 ghost use Rattle.replica.specs.Merges.{told_purges, with_purges};
 ghost use Rattle.replica.specs.declared.error.RoomError.TheVariants as room_error;
 ghost use Rattle.replica.specs.declared.error.CallError.TheVariants as call_error;
@@ -108,10 +108,10 @@ pub trait Replica: Drop {
         requires no_purges { PurgeNothing entry.now.items }
 
         ensures ok { OnOk result (is_granted self.new entry.now) }
-        ensures small { OnOk result (Self.Disk.is_honest → NoneGrowsTooLarge entry.now.items entry.now.items (durable self.old)) }
+        ensures small { OnOk result (Self.Disk.is_honest → AllStaySmall entry.now.items entry.now.items (durable self.old)) }
         ensures short { OnOk result (PassesLog (log_end self.old) entry.now → ⊥) }
         ensures too_large { (p : partition_value) → IsErrOf result (room_error.TooLarge p) → Self.Disk.is_honest → IsFirstTooLarge entry.now.items (durable self.old) p }
-        ensures no_room { IsErrOf result room_error.NoRoom → PassesLog (log_end self.old) entry.now × (Self.Disk.is_honest → NoneGrowsTooLarge entry.now.items entry.now.items (durable self.old)) }
+        ensures no_room { IsErrOf result room_error.NoRoom → PassesLog (log_end self.old) entry.now × (Self.Disk.is_honest → AllStaySmall entry.now.items entry.now.items (durable self.old)) }
         ensures failed { IsErrOf result room_error.Failed → HasRisen (Self.Disk.faults (disk self.old)) (Self.Disk.faults (disk self.new)) }
         ensures whole { (IsErrOf result room_error.Failed → ⊥) → is_whole self.new }
         ensures log { log_end self.new ≡ log_end self.old }
@@ -204,6 +204,7 @@ pub trait Replica: Drop {
     fn flush(&mut self, alloc: Global, step: &LogEntry, kept: &Kept) -> Result<u32, CallError>
         requires granted { is_granted self.old step.now }
         requires whole { is_whole self.old }
+        requires arrival { ArriveAtOnce step.now.items }
         requires kept { Self.Disk.is_honest → IsKeptAfter step.now.items (durable self.old) kept.now }
 
         ensures ok { OnOk result (Self.Disk.is_honest → Committed stands_for (λ r. Self.Disk.disk (disk r)) durable step.now.items self.old self.new) }
@@ -258,6 +259,7 @@ pub trait Replica: Drop {
     ) -> Result<Purges, FinishError>
         requires granted { is_granted self.old step.now }
         requires whole { is_whole self.old }
+        requires arrival { ArriveAtOnce step.now.items }
         requires kept { Self.Disk.is_honest → IsKeptAfter step.now.items (durable self.old) kept.now }
         requires merging { is_merging self.old merge.job }
 

@@ -1,0 +1,5 @@
+mod Appended
+mod Loading
+mod Readings
+mod Refusals
+mod Spellings

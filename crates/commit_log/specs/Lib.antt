@@ -1,0 +1,3 @@
+pub mod Errors
+pub mod Format
+pub mod Place
