@@ -8,7 +8,12 @@ const TURNS: u32 = 7;
 
 const QUERY: &[u8] = b"\x00\x00\x00\x1bSELECT v FROM t WHERE k = ?\x00\x06\x25\x00\x03\x00\x00\x00\x04\x00\x00\x00\x01\x00\x00\x00\x10abcdefghijklmnop\x00\x00\x00\x00\x00\x00\x13\x08\x00\x06\x44\x59\x41\x62\x40\x00";
 const EXECUTE: &[u8] = b"\x00\x100123456789abcdef\x00\x06\x01\x00\x04\x00\x00\x00\x08\x00\x00\x00\x00\x00\x00\x00\x07\x00\x00\x00\x01x\x00\x00\x00\x20abcdefghijklmnopqrstuvwxyzABCDEF\x00\x00\x00\x00";
-const COLUMNS: [(&str, u16); 4] = [("k", 0x09), ("c", 0x0d), ("v", 0x03), ("n", 0x02)];
+const COLUMNS: [(&str, CqlType); 4] = [
+    ("k", CqlType::Int),
+    ("c", CqlType::Text),
+    ("v", CqlType::Blob),
+    ("n", CqlType::Bigint),
+];
 const ROW: [&[u8]; 4] = [
     b"\x00\x00\x00\x01",
     b"clustering 1",
@@ -27,6 +32,42 @@ enum BodyError {
     NotUtf8(usize),
 }
 
+#[derive(Clone, Copy, Debug)]
+enum Consistency {
+    Any,
+    One,
+    Two,
+    Three,
+    Quorum,
+    All,
+    LocalQuorum,
+    EachQuorum,
+    Serial,
+    LocalSerial,
+    LocalOne,
+}
+
+impl TryFrom<u16> for Consistency {
+    type Error = BodyError;
+
+    fn try_from(code: u16) -> Result<Consistency, BodyError> {
+        Ok(match code {
+            0 => Consistency::Any,
+            1 => Consistency::One,
+            2 => Consistency::Two,
+            3 => Consistency::Three,
+            4 => Consistency::Quorum,
+            5 => Consistency::All,
+            6 => Consistency::LocalQuorum,
+            7 => Consistency::EachQuorum,
+            8 => Consistency::Serial,
+            9 => Consistency::LocalSerial,
+            10 => Consistency::LocalOne,
+            code => return Err(BodyError::BadConsistency(code)),
+        })
+    }
+}
+
 #[derive(Debug)]
 enum Value {
     Null,
@@ -43,19 +84,57 @@ enum Values {
 
 #[derive(Debug)]
 struct Parameters {
-    consistency: u16,
+    consistency: Consistency,
     values: Values,
     skip_metadata: bool,
     page_size: Option<i32>,
     paging_state: Option<Option<Vec<u8>>>,
-    serial_consistency: Option<u16>,
+    serial_consistency: Option<Consistency>,
+    timestamp: Option<i64>,
+}
+
+#[derive(Debug)]
+enum BatchKind {
+    Logged,
+    Unlogged,
+}
+
+#[derive(Debug)]
+enum BatchStatement {
+    Query(String),
+    Prepared(Vec<u8>),
+}
+
+#[derive(Debug)]
+struct BatchEntry {
+    statement: BatchStatement,
+    values: Vec<Value>,
+}
+
+#[derive(Debug)]
+struct Batch {
+    kind: BatchKind,
+    entries: Vec<BatchEntry>,
+    consistency: Consistency,
+    serial_consistency: Option<Consistency>,
     timestamp: Option<i64>,
 }
 
 #[derive(Debug)]
 enum Request {
+    Startup(Vec<(String, String)>),
+    Options,
     Query { query: String, parameters: Parameters },
+    Prepare(String),
     Execute { id: Vec<u8>, parameters: Parameters },
+    Register(Vec<String>),
+    Batch(Batch),
+}
+
+struct Frame {
+    flags: u8,
+    opcode: u8,
+    body: Vec<u8>,
 }
 
 /// What is left of a body.
@@ -136,11 +215,8 @@ impl<'a> Reader<'a> {
         }
     }
 
-    fn consistency(&mut self) -> Result<u16, BodyError> {
-        match self.short()? {
-            code @ 0..=10 => Ok(code),
-            code => Err(BodyError::BadConsistency(code)),
-        }
+    fn consistency(&mut self) -> Result<Consistency, BodyError> {
+        self.short()?.try_into()
     }
 
     fn part<T>(&mut self, set: bool, read: impl FnOnce(&mut Self) -> Result<T, BodyError>) -> Result<Option<T>, BodyError> {
@@ -181,31 +257,110 @@ impl<'a> Reader<'a> {
             timestamp: self.part(flags & 0x20 != 0, Reader::long)?,
         })
     }
+
+    fn entry(&mut self) -> Result<BatchEntry, BodyError> {
+        let statement = match self.byte()? {
+            0 => BatchStatement::Query(self.long_string()?),
+            1 => BatchStatement::Prepared(self.short_bytes()?),
+            _ => return Err(BodyError::BadFlag),
+        };
+        let values = self.list(Reader::value)?;
+        Ok(BatchEntry { statement, values })
+    }
+
+    fn batch(&mut self) -> Result<Batch, BodyError> {
+        let kind = match self.byte()? {
+            0 => BatchKind::Logged,
+            1 => BatchKind::Unlogged,
+            _ => return Err(BodyError::BadFlag),
+        };
+        let entries = self.list(Reader::entry)?;
+        let consistency = self.consistency()?;
+        let flags = self.byte()?;
+        if flags & !0x30 != 0 {
+            return Err(BodyError::BadFlag);
+        }
+        Ok(Batch {
+            kind,
+            entries,
+            consistency,
+            serial_consistency: self.part(flags & 0x10 != 0, Reader::consistency)?,
+            timestamp: self.part(flags & 0x20 != 0, Reader::long)?,
+        })
+    }
+
+    /// Passes a custom payload over.
+    fn payload(&mut self) -> Result<(), BodyError> {
+        for _ in 0..self.short()? {
+            let count = self.short()?;
+            let start = self.at;
+            std::str::from_utf8(self.bytes(usize::from(count))?)
+                .map_err(|error| BodyError::NotUtf8(start + error.valid_up_to()))?;
+            let count = self.int()?;
+            if count >= 0 {
+                self.bytes(count as usize)?;
+            }
+        }
+        Ok(())
+    }
 }
 
-fn decode_request(opcode: u8, body: &[u8]) -> Result<Request, BodyError> {
-    let mut reader = Reader { body, at: 0 };
-    let request = match opcode {
+fn decode_request(frame: &Frame) -> Result<Request, BodyError> {
+    let mut reader = Reader { body: &frame.body, at: 0 };
+    if !matches!(frame.opcode, 0x01 | 0x05 | 0x07 | 0x09 | 0x0a | 0x0b | 0x0d) {
+        return Err(BodyError::Opcode(frame.opcode));
+    }
+    if frame.flags & 0x04 != 0 {
+        reader.payload()?;
+    }
+    let request = match frame.opcode {
+        0x01 => Request::Startup(reader.list(|r| Ok((r.string()?, r.string()?)))?),
+        0x05 => Request::Options,
         0x07 => Request::Query {
             query: reader.long_string()?,
             parameters: reader.parameters()?,
         },
+        0x09 => Request::Prepare(reader.long_string()?),
         0x0a => Request::Execute {
             id: reader.short_bytes()?,
             parameters: reader.parameters()?,
         },
-        opcode => return Err(BodyError::Opcode(opcode)),
+        0x0b => Request::Register(reader.list(Reader::string)?),
+        _ => Request::Batch(reader.batch()?),
     };
-    if reader.at != body.len() {
-        return Err(BodyError::Trailing(body.len() - reader.at));
+    if reader.at != frame.body.len() {
+        return Err(BodyError::Trailing(frame.body.len() - reader.at));
     }
     Ok(request)
 }
 
+#[derive(Clone, Copy)]
+enum CqlType {
+    Ascii = 1,
+    Bigint = 2,
+    Blob = 3,
+    Boolean = 4,
+    Int = 9,
+    Timestamp = 11,
+    Uuid = 12,
+    Text = 13,
+    Timeuuid = 15,
+    Smallint = 19,
+    Tinyint = 20,
+}
+
+enum Columns {
+    Counted(u32),
+    Described {
+        keyspace: String,
+        table: String,
+        columns: Vec<(String, CqlType)>,
+    },
+}
+
 struct Rows {
-    keyspace: String,
-    table: String,
-    columns: Vec<(String, u16)>,
+    columns: Columns,
+    paging_state: Option<Option<Vec<u8>>>,
     row_count: u32,
     cells: Vec<Option<Vec<u8>>>,
 }
@@ -215,26 +370,44 @@ fn write_string(out: &mut Vec<u8>, text: &str) {
     out.extend_from_slice(text.as_bytes());
 }
 
+fn write_bytes(out: &mut Vec<u8>, bytes: &Option<Vec<u8>>) {
+    match bytes {
+        None => out.extend_from_slice(&u32::MAX.to_be_bytes()),
+        Some(bytes) => {
+            out.extend_from_slice(&(bytes.len() as u32).to_be_bytes());
+            out.extend_from_slice(bytes);
+        }
+    }
+}
+
+fn write_metadata(out: &mut Vec<u8>, rows: &Rows) {
+    let (flag, count) = match &rows.columns {
+        Columns::Counted(count) => (4, *count),
+        Columns::Described { columns, .. } => (1, columns.len() as u32),
+    };
+    let flags = flag + if rows.paging_state.is_some() { 2 } else { 0 };
+    out.extend_from_slice(&i32::to_be_bytes(flags));
+    out.extend_from_slice(&count.to_be_bytes());
+    if let Some(state) = &rows.paging_state {
+        write_bytes(out, state);
+    }
+    if let Columns::Described { keyspace, table, columns } = &rows.columns {
+        write_string(out, keyspace);
+        write_string(out, table);
+        for (name, ty) in columns {
+            write_string(out, name);
+            out.extend_from_slice(&(*ty as u16).to_be_bytes());
+        }
+    }
+}
+
 fn encode_rows(rows: &Rows) -> Vec<u8> {
     let mut out = Vec::new();
     out.extend_from_slice(&2i32.to_be_bytes());
-    out.extend_from_slice(&1i32.to_be_bytes());
-    out.extend_from_slice(&(rows.columns.len() as u32).to_be_bytes());
-    write_string(&mut out, &rows.keyspace);
-    write_string(&mut out, &rows.table);
-    for (name, ty) in &rows.columns {
-        write_string(&mut out, name);
-        out.extend_from_slice(&ty.to_be_bytes());
-    }
+    write_metadata(&mut out, rows);
     out.extend_from_slice(&rows.row_count.to_be_bytes());
     for cell in &rows.cells {
-        match cell {
-            None => out.extend_from_slice(&u32::MAX.to_be_bytes()),
-            Some(bytes) => {
-                out.extend_from_slice(&(bytes.len() as u32).to_be_bytes());
-                out.extend_from_slice(bytes);
-            }
-        }
+        write_bytes(&mut out, cell);
     }
     out
 }
@@ -247,9 +420,12 @@ fn rows() -> Rows {
         }
     }
     Rows {
-        keyspace: "ks".to_owned(),
-        table: "t".to_owned(),
-        columns: COLUMNS.iter().map(|(name, ty)| ((*name).to_owned(), *ty)).collect(),
+        columns: Columns::Described {
+            keyspace: "ks".to_owned(),
+            table: "t".to_owned(),
+            columns: COLUMNS.iter().map(|(name, ty)| ((*name).to_owned(), *ty)).collect(),
+        },
+        paging_state: None,
         row_count: 100,
         cells,
     }
@@ -258,6 +434,7 @@ fn rows() -> Rows {
 fn values_len(request: &Request) -> u64 {
     let parameters = match request {
         Request::Query { parameters, .. } | Request::Execute { parameters, .. } => parameters,
+        _ => return 0,
     };
     let Values::ByPlace(values) = &parameters.values else {
         return 0;
@@ -271,21 +448,26 @@ fn values_len(request: &Request) -> u64 {
     length
 }
 
-fn decode_often(opcode: u8, body: &[u8], count: u32) -> u64 {
+fn decode_often(frame: &Frame, count: u32) -> u64 {
     let mut length = 0u64;
     for _ in 0..count {
-        let request = black_box(decode_request(opcode, black_box(body)).unwrap());
+        let request = black_box(decode_request(black_box(frame)).unwrap());
         length += values_len(&request);
     }
     length
 }
 
 fn time_decoding(name: &str, opcode: u8, body: &[u8], count: u32) {
+    let frame = Frame {
+        flags: 0,
+        opcode,
+        body: body.to_vec(),
+    };
     let mut fastest = u128::MAX;
     let mut total = 0u64;
     for _ in 0..TURNS {
         let start = Instant::now();
-        let decoded = decode_often(opcode, body, count);
+        let decoded = decode_often(&frame, count);
         fastest = fastest.min(start.elapsed().as_nanos());
         total += decoded;
     }

@@ -1,7 +1,7 @@
 -- Where bytes are a word, they are what is written for its value.
-use Rattle.std.proofs.Common.{◌≡◌, ℕ, zero, suc, ◌+◌, ◌-◌, ◌^◌, ◌<◌, ◌≤◌, Bool, true, false, List, [], ◌∷◌, ◌++◌, length, get_or, Option, Some, None, Result, Ok, Err, refl, sym, ap, subst, ◌∙◌, append_assoc, arith, inl, inr}
-use Rattle.std.specs.Prelude.{ℤ, pos, negsuc, is_some}
-use Rattle.std.specs.Int.{Width, w16, w32, w64, byte_len, cast_signed, cast_unsigned, from_be_bytes, to_be_bytes}
+use Rattle.std.proofs.Common.{◌≡◌, ℕ, ◌+◌, ◌^◌, ◌<◌, Bool, List, [], ◌∷◌, ◌++◌, length, Option, Some, None, sym, ap, subst, ◌∙◌, append_assoc, arith, inl, inr}
+use Rattle.std.specs.Prelude.{ℤ, pos, negsuc}
+use Rattle.std.specs.Int.{Width, w16, w32, w64, cast_unsigned, from_be_bytes, to_be_bytes}
 use Rattle.std.specs.List.{flat_map, AllByRecursion}
 use Rattle.std.proofs.lemmas.Bool.{cases_lt}
 use Rattle.std.proofs.lemmas.Int.{of_z-to_z}
@@ -10,8 +10,7 @@ use Rattle.std.proofs.lemmas.List.Concat.{flat_map-cons}
 use Rattle.std.proofs.lemmas.Nat.{be_bytes_2, be_bytes_4, be_bytes_8}
 use Rattle.body_notations.specs.declared.value.Value.{Value}
 use Rattle.body_notations.specs.declared.value.Value.TheVariants as values
-use Rattle.body_notations.specs.declared.consistency.Consistency.{Consistency}
-use Rattle.body_notations.specs.Notations.{AreBytes, IsByte, IsNumber, IsShort, IsSigned, IsInt, IsLong, consistency_code, IsConsistency, IsString, IsLongString, IsShortBytes, IsBytes, IsValue, AreWords, IsList, IsPart}
+use Rattle.body_notations.specs.Notations.{AreBytes, IsNumber, IsShort, IsInt, IsLong, consistency_code, IsConsistency, IsString, IsLongString, IsShortBytes, IsBytes, IsValue, AreWords, IsList, IsPart}
 use Rattle.body_notations.specs.Spelling.{short, int, long, count, consistency, string, long_string, short_bytes, bytes as bytes_or_null, value, list, part, Always, IsNotNull, PartFits}
 
 pub AreBytes-behind : (front rest : List ℕ) → AreBytes (front ++ rest) → AreBytes rest

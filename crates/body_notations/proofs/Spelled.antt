@@ -1,19 +1,18 @@
 -- What is written is a word, whatever follows it; and where bytes are a word, they are what is written.
-use Rattle.std.proofs.Common.{◌≡◌, ℕ, zero, suc, ◌+◌, ◌-◌, ◌^◌, ◌<◌, ◌≤◌, Bool, true, false, List, [], ◌∷◌, ◌++◌, length, get_or, Option, Some, None, Result, Ok, Err, refl, sym, ap, subst, ◌∙◌, append_assoc, arith}
-use Rattle.std.specs.Prelude.{ℤ, pos, negsuc, FitsSigned, is_some}
-use Rattle.std.specs.Int.{Width, w16, w32, w64, byte_len, cast_signed, cast_unsigned, from_be_bytes, to_be_bytes}
+use Rattle.std.proofs.Common.{◌≡◌, ℕ, ◌-◌, ◌^◌, ◌<◌, Bool, List, [], ◌∷◌, ◌++◌, length, Option, Some, None, refl, sym, ap, subst, ◌∙◌, append_assoc, arith}
+use Rattle.std.specs.Prelude.{pos, negsuc, is_some}
+use Rattle.std.specs.Int.{Width, w16, w32, w64, byte_len, cast_unsigned, from_be_bytes, to_be_bytes}
 use Rattle.std.specs.List.{flat_map, AllByRecursion}
-use Rattle.std.specs.Str.{IsUtf8}
-use Rattle.std.proofs.lemmas.Int.{to_z-of_z, of_z-to_z, to_z_pos}
+use Rattle.std.proofs.lemmas.Int.{to_z-of_z, to_z_pos}
 use Rattle.std.proofs.lemmas.List.Concat.{flat_map-cons}
-use Rattle.std.proofs.lemmas.Nat.{be_bytes_2, be_bytes_4, be_bytes_8, from_be_bytes-to_be_bytes_2, from_be_bytes-to_be_bytes_4, from_be_bytes-to_be_bytes_8}
+use Rattle.std.proofs.lemmas.Nat.{from_be_bytes-to_be_bytes_2, from_be_bytes-to_be_bytes_4, from_be_bytes-to_be_bytes_8}
 use Rattle.std.proofs.Math.Facts.{Fits-of_z, to_z-neg}
 use Rattle.body_notations.specs.declared.value.Value.{Value}
 use Rattle.body_notations.specs.declared.value.Value.TheVariants as values
 use Rattle.body_notations.specs.declared.consistency.Consistency.{Consistency}
 use Rattle.body_notations.specs.declared.consistency.Consistency.TheVariants as consistencies
 use Rattle.cs_base.specs.declared.level.Level.TheVariants as levels
-use Rattle.body_notations.specs.Notations.{IsByte, IsNumber, IsShort, IsSigned, IsInt, IsLong, consistency_code, IsConsistency, IsString, IsLongString, IsShortBytes, IsBytes, IsValue, AreWords, IsList, IsPart}
+use Rattle.body_notations.specs.Notations.{IsByte, IsNumber, IsShort, IsInt, IsLong, consistency_code, IsConsistency, IsString, IsLongString, IsShortBytes, IsBytes, IsValue, AreWords, IsList, IsPart}
 use Rattle.body_notations.specs.Spelling.{short, int, long, count, consistency, string, long_string, short_bytes, bytes as bytes_or_null, value, list, part, Always, FitsShort, FitsInt, BytesFit, ValueFits, ListFits, PartFits, IsShortNumber, IsIntNumber, IsLongNumber, IsStringText, IsLongStringText}
 
 -- ---- words that are written

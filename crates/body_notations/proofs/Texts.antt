@@ -1,5 +1,5 @@
 -- Bytes are read as a text exactly where they are UTF-8.
-use Rattle.std.proofs.Common.{◌≡◌, ℕ, ◌-◌, Bool, true, false, List, Result, Ok, Err, refl, sym, ap}
+use Rattle.std.proofs.Common.{◌≡◌, ℕ, ◌-◌, Bool, true, false, List, Ok, Err, refl, ap}
 use Rattle.std.proofs.lemmas.Str.{is_utf8-from_IsUtf8, IsUtf8-from_is_utf8}
 use Rattle.std.specs.Prelude.{length}
 use Rattle.std.specs.Str.{IsUtf8, is_utf8}

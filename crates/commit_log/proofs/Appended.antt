@@ -1,5 +1,5 @@
 -- A file with one entry more.
-use Rattle.std.proofs.Common.{◌≡◌, ◌⊎◌, inl, inr, ⊎_elim, ℕ, ◌^◌, ◌<◌, List, [], ◌∷◌, ◌++◌, length, refl, sym}
+use Rattle.std.proofs.Common.{◌≡◌, inl, inr, ⊎_elim, ℕ, ◌^◌, ◌<◌, List, [], ◌∷◌, ◌++◌, length, sym}
 use Rattle.gate_log.specs.Format.{spelling, spellings, Reads}
 use Rattle.gate_log.specs.Format as gates
 use Rattle.row_change.specs.declared.entry.LogEntry.{LogEntry}

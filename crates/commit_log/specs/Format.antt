@@ -88,8 +88,8 @@ IsBeforeOrAfter entry old new = (entries : List LogEntry) → ReadsEntries entri
 abbrev pub ReadsAlike : List ℕ → List ℕ → Type 0
 ReadsAlike old new = (new ≡ old) ⊎ ((entries : List LogEntry) × ReadsEntries entries old × ReadsEntries entries new)
 
--- What is written behind the words of a file, with the gate before it open, is one entry more, and a file that has it reads
--- as nothing else.
+-- With the word behind an open gate where a file of entries has its closed one, and a closed gate behind the word, the file
+-- reads as the entries and this one, and as nothing else.
 abbrev pub IsAppended : LogEntry → List ℕ → Type 0
 IsAppended entry word =
     (entries : List LogEntry) (old : List ℕ) (reads : ReadsEntries entries old)

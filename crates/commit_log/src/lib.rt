@@ -5,8 +5,6 @@
 mod error;
 mod laws;
 mod log;
-#[cfg(test)]
-mod tests;
 mod words;
 
 pub use error::{LogError, ReserveError};

@@ -140,8 +140,8 @@ impl CommitLog {
     }
 
     /// Appends the entry for which `reserve` was called last: the four store calls of the gate log. At `Ok` it is
-    /// acknowledged: from then on each crash leaves a file that has it. It takes no memory. After `Failed`, load the log
-    /// again.
+    /// acknowledged: from then on each crash leaves a file that has it. It takes no memory, and nothing is encoded: the
+    /// entry is there to be named. After `Failed`, load the log again.
     pub fn append<S: Store>(&mut self, store: &mut S, entry: &LogEntry) -> Result<(), Failed>
         requires at_rest { S.is_honest → IsAtRest self.old.place.gate ((S.disk store.old).seen self.old.place.file) }
         requires settled { S.is_honest → IsSettled self.old.place.file (S.disk store.old) }
@@ -165,7 +165,6 @@ impl CommitLog {
         ensures room { self.old.place.room ≤ self.new.place.room }
         ensures store_room { (k : ℕ) → S.reserved store.old k ≤ S.reserved store.new k }
     {
-        let _ = entry;
         self.gates.append(store, &self.word)
     }
 }

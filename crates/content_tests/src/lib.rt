@@ -12,4 +12,6 @@ mod log_entries;
 #[cfg(test)]
 mod orders;
 #[cfg(test)]
+mod partitions;
+#[cfg(test)]
 mod shown_rows;

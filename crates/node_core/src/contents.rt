@@ -9,14 +9,16 @@ ghost use Rattle.node_steps.specs.Replicas.{TakesIn, IsReplyTo};
 use crate::held::HeldContent;
 use cell_merge::Content;
 use changes::{Helds, Mutation, Partition, Query};
+use cs_base::Micros;
 use std::alloc::{AllocError, Global};
 use std::collections::BTreeMap;
 
-/// Takes the changes of a mutation in.
+/// Takes the changes of a mutation in, at the node's time.
 pub(crate) fn take_in(
     contents: &mut BTreeMap<Partition, HeldContent>,
     alloc: Global,
     mutation: Mutation,
+    time: Micros,
 ) -> Result<(), AllocError>
     requires { IsOrdered partition_cmp contents.old }
     ensures ok { OnOk result (TakesIn (all_of contents.old.entries) mutation.partition mutation.changes (all_of contents.new.entries)) }
@@ -25,8 +27,8 @@ pub(crate) fn take_in(
 {
     let Mutation { partition, changes } = mutation;
     match contents.get_mut(&partition) {
-        Some(content) => content.take_in(alloc, changes),
-        None => begin(contents, alloc, partition, changes),
+        Some(content) => content.take_in(alloc, changes, time),
+        None => begin(contents, alloc, partition, changes, time),
     }
 }
 
@@ -36,6 +38,7 @@ fn begin(
     alloc: Global,
     partition: Partition,
     changes: Helds,
+    time: Micros,
 ) -> Result<(), AllocError>
     requires ordered { IsOrdered partition_cmp contents.old }
     requires new { get partition_cmp contents.old partition ≡ None }
@@ -44,7 +47,7 @@ fn begin(
     ensures err { OnErr result (contents.new.entries ≡ contents.old.entries) }
 {
     let mut content = HeldContent::new(alloc);
-    content.take_in(alloc, changes)?;
+    content.take_in(alloc, changes, time)?;
     contents.insert(partition, content)?;
     Ok(())
 }

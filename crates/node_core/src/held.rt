@@ -7,6 +7,7 @@ ghost use Rattle.changes.specs.Queries.{IsSlice};
 
 use cell_merge::Content;
 use changes::{Helds, Query};
+use cs_base::Micros;
 use partition_content::PartitionContent;
 use std::alloc::{AllocError, Global};
 use std::marker::Model;
@@ -20,10 +21,11 @@ pub(crate) struct HeldContent {
 impl Model for HeldContent {
     ghost use Rattle.std.specs.Prelude.{List};
     ghost use Rattle.changes.specs.declared.Held.{Held};
+    ghost use Rattle.partition_content.specs.Partition.{changes_in};
 
     ghost Value = { List Held };
 
-    ghost view = { λ a. a.content.changes };
+    ghost view = { λ a. changes_in a.content };
 }
 
 impl HeldContent {
@@ -35,14 +37,19 @@ impl HeldContent {
         }
     }
 
-    /// Takes changes in: what is held is then the content of what was held and these.
-    pub(crate) fn take_in(&mut self, alloc: Global, changes: Helds) -> Result<(), AllocError>
+    /// Takes changes in, at the node's time: what is held is then the content of what was held and these.
+    pub(crate) fn take_in(
+        &mut self,
+        alloc: Global,
+        changes: Helds,
+        time: Micros,
+    ) -> Result<(), AllocError>
         ensures ok { OnOk result (IsContent self.new (Either (Contains self.old) (Contains changes))) }
         ensures err { OnErr result (self.new ≡ self.old) }
     {
         let incoming = Content::from_changes(alloc, changes.into_vec())?;
         self.content.reserve(&incoming)?;
-        self.content.apply(incoming);
+        self.content.apply(incoming, time);
         Ok(())
     }
 

@@ -59,6 +59,13 @@ pub(crate) struct Parted {
     pub own: Option<Body>,
 }
 
+/// The node's time at which a client's request came to it.
+fn time_of(request: &ReqId) -> Micros
+    ensures { result ≡ request.now.time }
+{
+    request.time
+}
+
 fn message(me: NodeId, sent: Outbound, time: Micros) -> Message
     ensures { result ≡ message_of me time sent }
 {
@@ -86,6 +93,12 @@ impl Place {
             messages,
             entries: Items::new(alloc),
         })
+    }
+
+    fn when(&self) -> Micros
+        ensures { result ≡ self.now.time }
+    {
+        self.time
     }
 
     fn answer(self, body: Body) -> Message
@@ -214,9 +227,10 @@ impl Kept {
         ensures ordered { IsOrdered partition_cmp self.new.contents }
         ensures err { OnErr result (HasOnlyMovedWrite request self.old self.new) }
     {
+        let time = time_of(&request);
         let turn = hear_ack(&mut self.writes, alloc, setting, request, request.node)?;
         let now = given.with_entries(turn.entries)?;
-        take_in(&mut self.contents, alloc, mutation)?;
+        take_in(&mut self.contents, alloc, mutation, time)?;
         Ok(now)
     }
 
@@ -450,8 +464,9 @@ impl Kept {
         ensures same { (self.new.writes ≡ self.old.writes) × (self.new.reads ≡ self.old.reads) }
         ensures err { OnErr result (self.new.contents.entries ≡ self.old.contents.entries) }
     {
+        let time = place.when();
         let given = place.replies(alloc, Body::WriteAck)?;
-        take_in(&mut self.contents, alloc, mutation)?;
+        take_in(&mut self.contents, alloc, mutation, time)?;
         Ok(given)
     }
 

@@ -11,8 +11,6 @@ mod reading;
 mod slots;
 mod spots;
 mod taking;
-#[cfg(test)]
-mod tests;
 
 use changes::Held;
 pub use content::PartitionContent;

@@ -46,7 +46,7 @@ fn apply_cells(alloc: Global, count: u32, rows: u32) -> Result<PartitionContent,
         let row = at.wrapping_mul(2654435761) % rows;
         let incoming = one_cell(alloc, row, at)?;
         content.reserve(&incoming)?;
-        content.apply(incoming);
+        content.apply(incoming, Micros::new(u64::from(at)));
     }
     Ok(content)
 }

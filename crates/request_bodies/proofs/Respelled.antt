@@ -1,20 +1,16 @@
 -- Where bytes are the body of a request, they are what is written for it.
-use Rattle.std.proofs.Common.{◌≡◌, ℕ, suc, ◌<◌, Bool, true, false, List, [], ◌∷◌, ◌++◌, Option, Some, None, refl, sym, ap, subst, ◌∙◌, append_assoc}
+use Rattle.std.proofs.Common.{◌≡◌, ℕ, suc, Bool, true, false, List, [], ◌∷◌, ◌++◌, Option, Some, None, refl, sym, ap, subst, ◌∙◌, append_assoc}
 use Rattle.std.specs.Prelude.{is_some}
-use Rattle.std.specs.List.{AllByRecursion}
 use Rattle.std.proofs.lemmas.List.{append-nil}
-use Rattle.body_notations.specs.Notations.{AreBytes, IsByte, IsInt, IsLong, IsConsistency, IsString, IsLongString, IsShortBytes, IsBytes, IsValue, IsList, IsPart}
+use Rattle.body_notations.specs.Notations.{AreBytes, IsInt, IsLong, IsConsistency, IsString, IsLongString, IsShortBytes, IsBytes, IsValue, IsList, IsPart}
 use Rattle.body_notations.specs.Reading.{is_set}
 use Rattle.body_notations.specs.Spelling.{int, long, consistency, string, long_string, short_bytes, bytes as bytes_or_null, value, list, part, Always, PartFits, IsNotNull}
 use Rattle.body_notations.proofs.Respelled.{Respells, AreBytes-rest, int_respells, long_respells, consistency_respells, string_respells, long_string_respells, short_bytes_respells, bytes_respells, value_respells, list_respells, part_back, two_back, all_always}
-use Rattle.request_bodies.specs.declared.startup.StringPair.{StringPair}
-use Rattle.request_bodies.specs.declared.parameters.NamedValue.{NamedValue}
 use Rattle.request_bodies.specs.declared.parameters.Values.{Values}
 use Rattle.request_bodies.specs.declared.parameters.Values.TheVariants as given
 use Rattle.request_bodies.specs.declared.parameters.QueryParameters.{QueryParameters}
 use Rattle.request_bodies.specs.declared.batch.BatchStatement.{BatchStatement}
 use Rattle.request_bodies.specs.declared.batch.BatchStatement.TheVariants as statements
-use Rattle.request_bodies.specs.declared.batch.BatchEntry.{BatchEntry}
 use Rattle.request_bodies.specs.declared.batch.Batch.{Batch}
 use Rattle.request_bodies.specs.declared.request.Request.{Request}
 use Rattle.request_bodies.specs.declared.request.Request.TheVariants as requests

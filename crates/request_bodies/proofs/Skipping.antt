@@ -2,7 +2,7 @@
 use Rattle.std.proofs.Common.{◌≡◌, ℕ, suc, ◌-◌, ◌+◌, ◌≤◌, ◌<◌, List, Result, Ok, Err, refl, sym, ◌∙◌, arith}
 use Rattle.body_notations.specs.declared.fault.Fault.{Fault}
 use Rattle.body_notations.specs.declared.fault.Fault.TheVariants as faults
-use Rattle.body_notations.specs.Reading.{◌>>=◌, Fails}
+use Rattle.body_notations.specs.Reading.{Fails}
 use Rattle.request_bodies.specs.Reading.{behind_entry, behind_entries}
 
 pub goes_on : (count i : ℕ) (bytes after : List ℕ) (total : Result (List ℕ) Fault) → i < count → behind_entry bytes ≡ Ok after

@@ -1,26 +1,21 @@
 -- What is written of a request is a word of the grammar, whatever follows it.
-use Rattle.std.proofs.Common.{◌≡◌, ℕ, Bool, true, false, List, [], ◌∷◌, ◌++◌, Option, Some, None, refl, sym, ap, subst, ◌∙◌, append_assoc}
+use Rattle.std.proofs.Common.{◌≡◌, ℕ, Bool, false, List, [], ◌∷◌, ◌++◌, Option, Some, None, refl, sym, ap, subst, ◌∙◌, append_assoc}
 use Rattle.std.specs.Prelude.{is_some}
-use Rattle.std.specs.List.{flat_map}
 use Rattle.std.proofs.lemmas.List.{append-nil}
-use Rattle.body_notations.specs.Notations.{IsByte, IsInt, IsLong, IsConsistency, IsString, IsLongString, IsShortBytes, IsBytes, IsValue, IsList, IsPart}
+use Rattle.body_notations.specs.Notations.{IsInt, IsLong, IsConsistency, IsString, IsLongString, IsShortBytes, IsBytes, IsValue, IsList}
 use Rattle.body_notations.specs.Reading.{is_set}
 use Rattle.body_notations.specs.Spelling.{int, long, consistency, string, long_string, short_bytes, bytes as bytes_or_null, value, list, part, Always, FitsShort, BytesFit, ValueFits, ListFits, PartFits, IsIntNumber, IsLongNumber, IsStringText, IsLongStringText}
 use Rattle.body_notations.proofs.Spelled.{IsSpelled, int_spelled, long_spelled, consistency_spelled, string_spelled, long_string_spelled, short_bytes_spelled, bytes_spelled, value_spelled, list_spelled, part_spelled, two_spelled}
-use Rattle.request_bodies.specs.declared.startup.StringPair.{StringPair}
-use Rattle.request_bodies.specs.declared.parameters.NamedValue.{NamedValue}
 use Rattle.request_bodies.specs.declared.parameters.Values.{Values}
 use Rattle.request_bodies.specs.declared.parameters.Values.TheVariants as given
 use Rattle.request_bodies.specs.declared.parameters.QueryParameters.{QueryParameters}
 use Rattle.request_bodies.specs.declared.batch.BatchStatement.{BatchStatement}
 use Rattle.request_bodies.specs.declared.batch.BatchStatement.TheVariants as statements
-use Rattle.request_bodies.specs.declared.batch.BatchEntry.{BatchEntry}
-use Rattle.request_bodies.specs.declared.batch.Batch.{Batch}
 use Rattle.request_bodies.specs.declared.request.Request.{Request}
 use Rattle.request_bodies.specs.declared.request.Request.TheVariants as requests
 use Rattle.request_bodies.specs.Requests.{IsPair, IsNamedValue, AreValues, AreParts, AreParameters, IsStatement, IsEntry, IsBatch, IsPayload, IsBody, opcode_of, IsRequest}
-use Rattle.request_bodies.specs.Spelling.{pair, named_value, values, flags_of, parts, parameters, statement, entry, kind_code, batch_flags_of, batch_end, batch, body, PairHasWord, NamedValueHasWord, ValuesHaveWord, ParametersHaveWord, StatementHasWord, EntryHasWord, BatchHasWord, HasWord}
-use Rattle.request_bodies.proofs.Flags.{is_present, is_named, FlagsTell, flags_tell, flags_known}
+use Rattle.request_bodies.specs.Spelling.{pair, named_value, values, flags_of, parts, parameters, statement, entry, batch_flags_of, batch_end, batch, body, PairHasWord, NamedValueHasWord, ValuesHaveWord, ParametersHaveWord, StatementHasWord, EntryHasWord, BatchHasWord, HasWord}
+use Rattle.request_bodies.proofs.Flags.{is_present, is_named, flags_tell, flags_known}
 
 pub pair_spelled : IsSpelled pair IsPair PairHasWord
 pair_spelled = record { first = λ p rest has. two_spelled string string IsString IsString IsStringText IsStringText string_spelled string_spelled p.key p.value rest has.0 has.1 }

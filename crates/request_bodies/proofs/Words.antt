@@ -1,17 +1,14 @@
 -- What is read of a request is a word of the grammar, and a word is read.
-use Rattle.std.proofs.Common.{◌≡◌, ℕ, zero, suc, Bool, true, false, cond, not, eqb, ◌&&◌, ◌||◌, List, [], ◌∷◌, length, Option, Some, None, Result, Ok, Err, inl, inr, refl, sym, ap, subst, ◌∙◌}
-use Rattle.std.specs.Prelude.{◌⊎◌, ℤ, is_some}
+use Rattle.std.proofs.Common.{◌≡◌, ℕ, zero, suc, Bool, true, false, cond, not, eqb, ◌&&◌, ◌||◌, List, [], ◌∷◌, length, Option, Some, None, Result, Ok, Err, refl, sym, ap, subst, ◌∙◌}
+use Rattle.std.specs.Prelude.{ℤ, is_some}
 use Rattle.std.proofs.lemmas.Bool.{eqb-true}
-use Rattle.std.proofs.lemmas.List.{nil_from_length}
 use Rattle.body_notations.specs.declared.fault.Fault.{Fault}
 use Rattle.body_notations.specs.declared.fault.Fault.TheVariants.{BadFlag}
-use Rattle.body_notations.specs.declared.fault.BodyError.{BodyError}
-use Rattle.body_notations.specs.declared.fault.BodyError.TheVariants.{Trailing}
 use Rattle.body_notations.specs.declared.consistency.Consistency.{Consistency}
 use Rattle.body_notations.specs.declared.value.Value.{Value}
 use Rattle.body_notations.specs.Notations.{IsByte, IsInt, IsLong, IsConsistency, IsString, IsLongString, IsShortBytes, IsBytes, IsValue, IsList, IsPart, AreWords, IsShort}
-use Rattle.body_notations.specs.Reading.{◌>>=◌, Read, behind, byte_at, short_at, int_at, long_at, consistency_at, string_at, long_string_at, short_bytes_at, bytes_at, value_at, items_at, list_at, part_at, is_set, place, ended, whole}
-use Rattle.body_notations.proofs.Words.{Agrees, bind_ok, ok_is, whole_ok, passed_ok, made, mapped_ok, two_ok, byte_agrees, short_agrees, int_agrees, long_agrees, consistency_agrees, string_agrees, long_string_agrees, short_bytes_agrees, bytes_agrees, value_agrees, list_agrees, part_agrees}
+use Rattle.body_notations.specs.Reading.{◌>>=◌, Read, behind, byte_at, short_at, int_at, long_at, consistency_at, string_at, long_string_at, short_bytes_at, bytes_at, value_at, list_at, part_at, is_set, whole}
+use Rattle.body_notations.proofs.Words.{Agrees, bind_ok, ok_is, whole_ok, made, mapped_ok, two_ok, byte_agrees, short_agrees, int_agrees, long_agrees, consistency_agrees, string_agrees, long_string_agrees, short_bytes_agrees, bytes_agrees, value_agrees, list_agrees, part_agrees}
 use Rattle.request_bodies.specs.declared.startup.StringPair.{StringPair}
 use Rattle.request_bodies.specs.declared.parameters.NamedValue.{NamedValue}
 use Rattle.request_bodies.specs.declared.parameters.Values.{Values}
@@ -30,7 +27,7 @@ use Rattle.request_bodies.specs.declared.request.Request.{Request}
 use Rattle.request_bodies.specs.declared.request.Request.TheVariants as requests
 use Rattle.request_bodies.specs.declared.request.RequestKind.{RequestKind}
 use Rattle.request_bodies.specs.declared.request.RequestKind.TheVariants as kinds
-use Rattle.request_bodies.specs.Requests.{IsPair, IsStringMap, IsNamedValue, AreValues, AreParts, AreKnown, AreParameters, IsStatement, IsEntry, IsBatch, IsPayloadEntry, IsPayload, IsQuery, IsExecute, IsBody, opcode_of, IsRequest}
+use Rattle.request_bodies.specs.Requests.{IsPair, IsNamedValue, AreValues, AreParts, AreKnown, AreParameters, IsStatement, IsEntry, IsBatch, IsPayloadEntry, IsPayload, IsQuery, IsExecute, IsBody, opcode_of, IsRequest}
 use Rattle.request_bodies.specs.Reading.{pair_at, named_value_at, values_at, are_known, parts_at, parameters_at, statement_of, statement_at, entry_at, batch_kind, batch_flags, batch_end_at, batch_at, behind_entry, behind_entries, payload_at, query_at, execute_at, body_at, framed_at, kind_of, request_of, request_in}
 use Rattle.request_bodies.specs.Spelling.{batch_flags_of, kind_code}
 

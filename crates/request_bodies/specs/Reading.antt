@@ -1,5 +1,5 @@
 -- The bodies of requests, from left to right: a value and the bytes behind it, or the first fault.
-use Rattle.std.specs.Prelude.{ℕ, zero, suc, ◌==◌, ◌&&◌, ◌||◌, not, Bool, true, false, List, [], ◌∷◌, length, Option, Some, None, Result, Ok, Err, if◌then◌else◌}
+use Rattle.std.specs.Prelude.{ℕ, zero, suc, ◌==◌, ◌&&◌, ◌||◌, not, Bool, true, false, List, length, Option, Some, None, Result, Ok, Err, if◌then◌else◌}
 use Rattle.body_notations.specs.Reading.{◌>>=◌, Read, behind, byte_at, short_at, int_at, long_at, consistency_at, string_at, long_string_at, short_bytes_at, bytes_at, value_at, list_at, part_at, is_set, whole}
 use Rattle.body_notations.specs.declared.fault.Fault.{Fault}
 use Rattle.body_notations.specs.declared.fault.Fault.TheVariants.{BadFlag}

@@ -1,6 +1,6 @@
 -- The grammar of the bodies of requests (native_protocol_v4.spec, section 4.1), by its notations. As there, each says of
 -- bytes, a value and a rest that a word with that value stands at the front of the bytes, and the rest follows.
-use Rattle.std.specs.Prelude.{◌≡◌, ℕ, ◌==◌, ◌&&◌, ◌||◌, not, Bool, true, false, List, [], ◌∷◌, Option, Some, None, is_some}
+use Rattle.std.specs.Prelude.{◌≡◌, ℕ, Bool, true, false, List, [], Option, is_some}
 use Rattle.body_notations.specs.Notations.{IsByte, IsInt, IsLong, IsConsistency, IsString, IsLongString, IsShortBytes, IsBytes, IsValue, IsList, IsPart}
 use Rattle.body_notations.specs.Reading.{is_set}
 use Rattle.request_bodies.specs.declared.startup.StringPair.{StringPair}
@@ -8,8 +8,6 @@ use Rattle.request_bodies.specs.declared.parameters.NamedValue.{NamedValue}
 use Rattle.request_bodies.specs.declared.parameters.Values.{Values}
 use Rattle.request_bodies.specs.declared.parameters.Values.TheVariants as values
 use Rattle.request_bodies.specs.declared.parameters.QueryParameters.{QueryParameters}
-use Rattle.request_bodies.specs.declared.batch.BatchKind.{BatchKind}
-use Rattle.request_bodies.specs.declared.batch.BatchKind.TheVariants as batch_kinds
 use Rattle.request_bodies.specs.declared.batch.BatchStatement.{BatchStatement}
 use Rattle.request_bodies.specs.declared.batch.BatchStatement.TheVariants as statements
 use Rattle.request_bodies.specs.declared.batch.BatchEntry.{BatchEntry}

@@ -1,5 +1,5 @@
 -- How requests are written.
-use Rattle.std.specs.Prelude.{◌≡◌, ℕ, ◌+◌, Bool, true, false, List, [], ◌∷◌, ◌++◌, Option, Some, None, is_some, if◌then◌else◌}
+use Rattle.std.specs.Prelude.{ℕ, ◌+◌, Bool, true, false, List, [], ◌∷◌, ◌++◌, is_some, if◌then◌else◌}
 use Rattle.body_notations.specs.Spelling.{int, long, consistency, string, long_string, short_bytes, bytes as bytes_or_null, value, list, part, FitsShort, FitsInt, BytesFit, ValueFits, ListFits, PartFits, IsIntNumber, IsLongNumber, IsStringText, IsLongStringText, IsNotNull}
 use Rattle.request_bodies.specs.declared.startup.StringPair.{StringPair}
 use Rattle.request_bodies.specs.declared.parameters.NamedValue.{NamedValue}

@@ -1,12 +1,11 @@
 -- Where bytes are the body of a response, they are what is written for it.
-use Rattle.std.proofs.Common.{◌≡◌, ℕ, Bool, true, false, List, [], ◌∷◌, ◌++◌, length, Option, Some, None, refl, sym, ap, subst, ◌∙◌, append_assoc}
-use Rattle.std.specs.Prelude.{ℤ, pos, codes, is_some}
+use Rattle.std.proofs.Common.{◌≡◌, ℕ, List, [], ◌∷◌, ◌++◌, length, sym, ap, ◌∙◌, append_assoc}
+use Rattle.std.specs.Prelude.{pos, codes, is_some}
 use Rattle.std.specs.List.{flat_map, AllByRecursion}
 use Rattle.std.proofs.lemmas.List.{append-nil}
-use Rattle.body_notations.specs.Notations.{AreBytes, IsByte, IsShort, IsInt, IsConsistency, IsString, IsShortBytes, IsBytes, AreWords, IsList, IsPart}
-use Rattle.body_notations.specs.Spelling.{short, int, count, consistency, string, short_bytes, bytes as bytes_or_null, list, part, Always, PartFits, IsNotNull}
+use Rattle.body_notations.specs.Notations.{AreBytes, IsShort, IsString, IsBytes, IsList}
+use Rattle.body_notations.specs.Spelling.{short, int, count, consistency, string, short_bytes, bytes as bytes_or_null, list, part, Always, IsNotNull}
 use Rattle.body_notations.proofs.Respelled.{Respells, AreBytes-rest, short_respells, int_back, consistency_respells, string_respells, short_bytes_respells, bytes_respells, words_back, list_respells, part_back, two_back, all_always}
-use Rattle.response_bodies.specs.declared.supported.SupportedOption.{SupportedOption}
 use Rattle.response_bodies.specs.declared.error.Unavailable.{Unavailable}
 use Rattle.response_bodies.specs.declared.error.WriteType.{WriteType}
 use Rattle.response_bodies.specs.declared.error.WriteType.TheVariants as write_types
@@ -15,7 +14,6 @@ use Rattle.response_bodies.specs.declared.error.ReadTimeout.{ReadTimeout}
 use Rattle.response_bodies.specs.declared.error.ErrorCause.{ErrorCause}
 use Rattle.response_bodies.specs.declared.error.ErrorCause.TheVariants as causes
 use Rattle.response_bodies.specs.declared.error.ErrorResponse.{ErrorResponse}
-use Rattle.response_bodies.specs.declared.metadata.Column.{Column}
 use Rattle.response_bodies.specs.declared.metadata.TableColumns.{TableColumns}
 use Rattle.response_bodies.specs.declared.metadata.Columns.{Columns}
 use Rattle.response_bodies.specs.declared.metadata.Columns.TheVariants as given

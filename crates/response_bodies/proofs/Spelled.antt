@@ -1,33 +1,22 @@
 -- What is written of a response is a word of the grammar, whatever follows it.
-use Rattle.std.proofs.Common.{◌≡◌, ℕ, zero, suc, ◌<◌, ◌^◌, Bool, true, false, List, [], ◌∷◌, ◌++◌, length, Option, Some, None, refl, sym, ap, subst, ◌∙◌, append_assoc, arith}
-use Rattle.std.specs.Prelude.{ℤ, pos, codes, is_some}
-use Rattle.std.specs.Int.{w32, cast_unsigned}
-use Rattle.std.specs.List.{flat_map, AllByRecursion}
+use Rattle.std.proofs.Common.{◌≡◌, ℕ, zero, suc, ◌<◌, ◌^◌, List, [], ◌∷◌, ◌++◌, length, Option, Some, None, refl, sym, subst, append_assoc, arith}
+use Rattle.std.specs.Prelude.{pos, codes, is_some}
+use Rattle.std.specs.List.{flat_map}
 use Rattle.std.specs.Str.{IsUtf8, IsAscii}
 use Rattle.std.proofs.lemmas.List.{append-nil}
 use Rattle.std.proofs.lemmas.Str.{IsUtf8-from_ascii}
 use Rattle.cql_values.specs.declared.value.CqlType.{CqlType}
 use Rattle.cql_values.specs.declared.value.CqlType.TheVariants as types
-use Rattle.body_notations.specs.Notations.{IsByte, IsShort, IsInt, IsConsistency, IsString, IsShortBytes, IsBytes, AreWords, IsList, IsPart}
-use Rattle.body_notations.specs.Spelling.{short, int, count, consistency, string, short_bytes, bytes as bytes_or_null, list, part, Always, FitsShort, FitsInt, BytesFit, ListFits, PartFits, IsShortNumber, IsIntNumber, IsStringText}
+use Rattle.body_notations.specs.Notations.{IsShort, IsInt, IsString, IsBytes, IsList}
+use Rattle.body_notations.specs.Spelling.{short, int, count, consistency, string, short_bytes, bytes as bytes_or_null, list, part, BytesFit, ListFits, IsShortNumber, IsStringText}
 use Rattle.body_notations.proofs.Spelled.{IsSpelled, short_spelled, int_spelled, count_is, consistency_spelled, string_spelled, short_bytes_spelled, bytes_spelled, words_spelled, list_spelled, part_spelled, two_spelled}
-use Rattle.response_bodies.specs.declared.supported.SupportedOption.{SupportedOption}
-use Rattle.response_bodies.specs.declared.error.Unavailable.{Unavailable}
 use Rattle.response_bodies.specs.declared.error.WriteType.{WriteType}
 use Rattle.response_bodies.specs.declared.error.WriteType.TheVariants as write_types
-use Rattle.response_bodies.specs.declared.error.WriteTimeout.{WriteTimeout}
-use Rattle.response_bodies.specs.declared.error.ReadTimeout.{ReadTimeout}
 use Rattle.response_bodies.specs.declared.error.ErrorCause.{ErrorCause}
 use Rattle.response_bodies.specs.declared.error.ErrorCause.TheVariants as causes
-use Rattle.response_bodies.specs.declared.error.ErrorResponse.{ErrorResponse}
-use Rattle.response_bodies.specs.declared.metadata.Column.{Column}
 use Rattle.response_bodies.specs.declared.metadata.TableColumns.{TableColumns}
 use Rattle.response_bodies.specs.declared.metadata.Columns.{Columns}
 use Rattle.response_bodies.specs.declared.metadata.Columns.TheVariants as given
-use Rattle.response_bodies.specs.declared.metadata.RowsMetadata.{RowsMetadata}
-use Rattle.response_bodies.specs.declared.metadata.VariablesMetadata.{VariablesMetadata}
-use Rattle.response_bodies.specs.declared.metadata.Prepared.{Prepared}
-use Rattle.response_bodies.specs.declared.rows.Rows.{Rows}
 use Rattle.response_bodies.specs.declared.response.Response.{Response}
 use Rattle.response_bodies.specs.declared.response.Response.TheVariants as responses
 use Rattle.response_bodies.specs.Responses.{IsOption, IsUnavailable, IsWriteType, IsWriteTimeout, IsReadTimeout, AreFields, IsError, IsColumn, IsTable, AreColumns, IsMetadata, AreVariables, IsPrepared, AreRows, IsBody, opcode_of, IsResponse}

@@ -1,20 +1,17 @@
 -- What is read of a response is a word of the grammar, and a word is read.
-use Rattle.std.proofs.Common.{◌≡◌, ℕ, zero, suc, ◌*◌, ◌≤◌, Bool, true, false, cond, not, eqb, List, [], ◌∷◌, length, Option, Some, None, Result, Ok, Err, inl, inr, refl, sym, ap, subst, ◌∙◌, arith}
-use Rattle.std.specs.Prelude.{◌⊎◌, ℤ, pos, negsuc, int_lt, unsigned_abs, codes, is_some}
+use Rattle.std.proofs.Common.{◌≡◌, ℕ, ◌*◌, Bool, true, false, cond, eqb, List, [], length, Option, Some, None, Result, Ok, Err, refl, sym, ap, subst, ◌∙◌, arith}
+use Rattle.std.specs.Prelude.{ℤ, pos, negsuc, int_lt, unsigned_abs, codes, is_some}
 use Rattle.std.specs.Str.{bytes_eq}
 use Rattle.std.proofs.lemmas.Bool.{eqb-true, le-ltb}
-use Rattle.std.proofs.lemmas.List.{nil_from_length}
 use Rattle.std.proofs.lemmas.Slice.Eq.{bytes_eq-Decides}
 use Rattle.cql_values.specs.declared.value.CqlType.{CqlType}
 use Rattle.cql_values.specs.declared.value.CqlType.TheVariants as types
 use Rattle.body_notations.specs.declared.fault.Fault.{Fault}
 use Rattle.body_notations.specs.declared.fault.Fault.TheVariants.{BadFlag, BadValue}
-use Rattle.body_notations.specs.declared.fault.BodyError.{BodyError}
-use Rattle.body_notations.specs.declared.fault.BodyError.TheVariants.{Trailing}
 use Rattle.body_notations.specs.declared.consistency.Consistency.{Consistency}
-use Rattle.body_notations.specs.Notations.{IsByte, IsShort, IsInt, IsConsistency, IsString, IsShortBytes, IsBytes, AreWords, IsList, IsPart}
-use Rattle.body_notations.specs.Reading.{◌>>=◌, Read, byte_at, short_at, int_at, count_at, consistency_at, string_at, short_bytes_at, bytes_at, items_at, list_at, part_at, ended, whole}
-use Rattle.body_notations.proofs.Words.{Agrees, bind_ok, ok_is, ended_ok, whole_ok, made, mapped_ok, two_ok, IsCount, byte_agrees, short_agrees, int_agrees, count_agrees, consistency_agrees, string_agrees, short_bytes_agrees, bytes_agrees, items_agree, list_agrees, part_agrees}
+use Rattle.body_notations.specs.Notations.{IsByte, IsShort, IsInt, IsString, IsBytes, IsList, IsPart}
+use Rattle.body_notations.specs.Reading.{◌>>=◌, Read, byte_at, short_at, int_at, count_at, consistency_at, string_at, short_bytes_at, bytes_at, items_at, list_at, part_at, whole}
+use Rattle.body_notations.proofs.Words.{Agrees, bind_ok, ok_is, whole_ok, mapped_ok, two_ok, IsCount, byte_agrees, short_agrees, int_agrees, count_agrees, consistency_agrees, string_agrees, short_bytes_agrees, bytes_agrees, items_agree, list_agrees, part_agrees}
 use Rattle.response_bodies.specs.declared.supported.SupportedOption.{SupportedOption}
 use Rattle.response_bodies.specs.declared.error.Unavailable.{Unavailable}
 use Rattle.response_bodies.specs.declared.error.WriteType.{WriteType}

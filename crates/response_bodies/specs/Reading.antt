@@ -1,5 +1,5 @@
 -- The bodies of responses, from left to right: a value and the bytes behind it, or the first fault.
-use Rattle.std.specs.Prelude.{ℕ, zero, suc, ◌*◌, ◌==◌, ℤ, pos, int_lt, unsigned_abs, codes, Bool, true, false, List, [], ◌∷◌, length, Option, Some, None, Result, Ok, Err, if◌then◌else◌}
+use Rattle.std.specs.Prelude.{ℕ, ◌*◌, ◌==◌, ℤ, pos, int_lt, unsigned_abs, codes, Bool, true, false, List, length, Option, Some, None, Result, Ok, Err, if◌then◌else◌}
 use Rattle.std.specs.Str.{bytes_eq}
 use Rattle.cql_values.specs.declared.value.CqlType.{CqlType}
 use Rattle.cql_values.specs.declared.value.CqlType.TheVariants as types

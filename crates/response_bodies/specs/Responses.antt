@@ -1,7 +1,6 @@
 -- The grammar of the bodies of responses (native_protocol_v4.spec, sections 4.2 and 9), by its notations. As there, each
 -- says of bytes, a value and a rest that a word with that value stands at the front of the bytes, and the rest follows.
-use Rattle.std.specs.Prelude.{◌≡◌, ℕ, ◌*◌, ℤ, pos, codes, Bool, true, false, List, [], length, Option, Some, None, is_some}
-use Rattle.cql_values.specs.declared.value.CqlType.{CqlType}
+use Rattle.std.specs.Prelude.{◌≡◌, ℕ, ◌*◌, pos, codes, List, [], length, is_some}
 use Rattle.body_notations.specs.Notations.{IsByte, IsShort, IsInt, IsConsistency, IsString, IsShortBytes, IsBytes, AreWords, IsList, IsPart}
 use Rattle.response_bodies.specs.declared.supported.SupportedOption.{SupportedOption}
 use Rattle.response_bodies.specs.declared.error.Unavailable.{Unavailable}

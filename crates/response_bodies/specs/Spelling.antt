@@ -4,7 +4,7 @@ use Rattle.std.specs.List.{flat_map, AllByRecursion}
 use Rattle.cql_values.specs.declared.value.CqlType.{CqlType}
 use Rattle.cql_values.specs.declared.value.CqlType.TheVariants as types
 use Rattle.body_notations.specs.declared.consistency.Consistency.{Consistency}
-use Rattle.body_notations.specs.Spelling.{short, int, count, consistency, string, short_bytes, bytes as bytes_or_null, list, part, Always, FitsShort, FitsInt, BytesFit, ListFits, PartFits, IsShortNumber, IsIntNumber, IsStringText, IsNotNull}
+use Rattle.body_notations.specs.Spelling.{short, int, count, consistency, string, short_bytes, bytes as bytes_or_null, list, part, FitsShort, FitsInt, BytesFit, ListFits, PartFits, IsShortNumber, IsIntNumber, IsStringText, IsNotNull}
 use Rattle.response_bodies.specs.declared.supported.SupportedOption.{SupportedOption}
 use Rattle.response_bodies.specs.declared.error.Unavailable.{Unavailable}
 use Rattle.response_bodies.specs.declared.error.WriteType.{WriteType}

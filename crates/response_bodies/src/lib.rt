@@ -1,6 +1,7 @@
 //! The bodies of response frames (native_protocol_v4.spec, section 4.2).
 #![tactic(auto)]
 
+mod cells;
 mod error;
 mod laws;
 mod metadata;

@@ -5,17 +5,13 @@ ghost use Rattle.body_notations.specs.Reading.{Gives};
 ghost use Rattle.response_bodies.specs.Reading.{rows_at};
 ghost use Rattle.response_bodies.specs.Spelling.{rows, RowsFit};
 
+use crate::cells::write_cells;
 use crate::metadata::{
     RowsMetadata, metadata_has_word, read_front, read_metadata_behind, write_metadata,
 };
-use body_notations::{
-    Fault, INT_LIMIT, all_have_word, read_count, read_items, write_count, write_items,
-};
+use body_notations::{Fault, INT_LIMIT, all_have_word, read_count, read_items, write_count};
 use cs_base::{Bytes, Items};
 use std::alloc::{AllocError, Global};
-
-/// The length of a cell of 12 bytes, and they.
-const SHORT_CELL: usize = 4 + 12;
 
 /// The rows of a read, or of a refused condition.
 #[derive(Debug, Drop)]
@@ -44,13 +40,6 @@ pub(crate) fn read_rows(alloc: Global, bytes: &[u8]) -> Result<(Rows, &[u8]), Fa
     Ok((rows, rest))
 }
 
-/// Makes room for so many short cells.
-fn make_room(out: &mut Vec<u8>, cells: usize) -> Result<(), AllocError>
-    ensures { out.new.items ≡ out.old.items }
-{
-    out.reserve(cells.saturating_mul(SHORT_CELL))
-}
-
 #[tactic(auto, unfolding(crate::specs::Spelling::rows))]
 pub(crate) fn write_rows(out: &mut Vec<u8>, written: &Rows) -> Result<(), AllocError>
     requires { RowsFit written.now }
@@ -58,8 +47,7 @@ pub(crate) fn write_rows(out: &mut Vec<u8>, written: &Rows) -> Result<(), AllocE
 {
     write_metadata(out, &written.metadata)?;
     write_count(out, written.row_count as usize)?;
-    make_room(out, written.cells.as_slice().len())?;
-    write_items(out, &written.cells)
+    write_cells(out, written.cells.as_slice())
 }
 
 /// Whether each row has a cell for each column.

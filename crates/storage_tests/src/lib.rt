@@ -1,5 +1,7 @@
-//! Tests of stores, which need only the public side of the crates.
+//! Tests of stores and of logs, which need only the public side of the crates.
 #![tactic(auto)]
 
+#[cfg(test)]
+mod commit_logs;
 #[cfg(test)]
 mod stores;

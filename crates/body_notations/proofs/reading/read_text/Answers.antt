@@ -1,5 +1,5 @@
 -- The text that is copied is that of the bytes.
-use Rattle.std.proofs.Common.{◌≡◌, ◌∙◌, sym, ap, ◌-◌, ℕ, length}
+use Rattle.std.proofs.Common.{◌∙◌, ap, ◌-◌, ℕ, length}
 use Rattle.body_notations.proofs.Texts.{text_is, none_is}
 use Rattle.body_notations.proofs.reading.read_text.Goals as goal
 

@@ -1,4 +1,4 @@
-use Rattle.std.proofs.Common.{◌≡◌, ◌∙◌, ap, ◌-◌, ℕ, length}
+use Rattle.std.proofs.Common.{◌∙◌, ap, ◌-◌, ℕ, length}
 use Rattle.body_notations.proofs.Texts.{behind_text, behind_none}
 use Rattle.body_notations.proofs.reading.skip_text.Goals as goal
 

@@ -1,4 +1,3 @@
-use Rattle.std.proofs.Common.{◌≡◌}
 use Rattle.std.proofs.lemmas.Result.{err_from_is_err_and}
 use Rattle.request_bodies.specs.Reading.{behind_entries}
 use Rattle.request_bodies.proofs.Skipping.{goes_on, ends, is_done}

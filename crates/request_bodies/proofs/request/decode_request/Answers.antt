@@ -1,5 +1,5 @@
 -- What is read is spelled so, and what is spelled so is read.
-use Rattle.std.proofs.Common.{◌≡◌, Result, Ok, Err, IfOk, subst, ap, sym, ◌∙◌, List, ℕ}
+use Rattle.std.proofs.Common.{◌≡◌, Result, Ok, Err, IfOk, subst, List, ℕ}
 use Rattle.body_notations.specs.declared.fault.BodyError.{BodyError}
 use Rattle.body_notations.specs.Reading.{Answers}
 use Rattle.request_bodies.specs.Reading.{request_in}

@@ -1,7 +1,7 @@
 use Rattle.std.proofs.Common.{ℕ, sym, subst}
 use Rattle.cs_store.specs.Disk.{IsSettled}
 use Rattle.cs_store.specs.Mem.{disk_of}
-use Rattle.commit_log.proofs.tests.left.Goals as goal
+use Rattle.storage_tests.proofs.commit_logs.left.Goals as goal
 
 pub load-requires : goal.load-requires
 load-requires c honest = c.crash.ensures.settled c.args.f

@@ -2,12 +2,12 @@
 
 ghost use Rattle.std.specs.Prelude.{◌≤◌, IfOk, OnOk};
 ghost use Rattle.cs_store.specs.Disk.{IsSettled};
-ghost use Rattle.cs_store.specs.Mem.{disk_of};
+ghost use Rattle.cs_store.specs.Mem.{disk_of, IsSameDisk};
 ghost use Rattle.gate_log.specs.Place.{IsAtRest};
 
-use crate::{CommitLog, LogEntries, LogError, ReserveError};
+use commit_log::{CommitLog, LogEntries, LogError, ReserveError};
 use cs_store::{FileNo, MemStore, Outcome, Store};
-use row_change::decode_entry;
+use row_change::{LogEntry, decode_entry};
 use std::alloc::{AllocError, Global};
 use std::test::Fail;
 
@@ -34,11 +34,11 @@ const LOG: [u8; 20] = [
     0xc5, 0, 0, 0, 14, 0, 0, 0, 1, 4, 6, 0, 0, 0, 0, 0, 0, 1, 0, 0,
 ];
 
-/// How many entries there are, or the place where the file breaks the format.
-type Found = Result<usize, u64>;
+/// How many entries there are, or the place where the file breaks the format; nothing where there is another answer.
+type Found = Option<Result<usize, u64>>;
 
 /// What is found in the front of the log that has so many bytes.
-fn front_gives(n: usize) -> Found {
+fn front_gives(n: usize) -> Result<usize, u64> {
     match n {
         0 => Err(0),
         1..=18 => Err(1),
@@ -47,27 +47,43 @@ fn front_gives(n: usize) -> Found {
     }
 }
 
+/// What is found where the last byte of the length is this: the word is cut off, or it has a byte more and breaks before the
+/// gate is missed, or it passes the end.
+fn length_gives(byte: u8) -> Result<usize, u64> {
+    match byte {
+        0..=3 => Err(5),
+        4 => Err(9),
+        5 => Err(10),
+        6..=13 => Err(11),
+        14 => Ok(1),
+        15 => Err(19),
+        _ => Err(1),
+    }
+}
+
+/// What is found where the kind of the item is this.
+fn kind_gives(byte: u8) -> Result<usize, u64> {
+    match byte {
+        4 => Ok(1),
+        1 | 5 | 6 => Err(18),
+        2 | 7 => Err(12),
+        3 => Err(19),
+        _ => Err(9),
+    }
+}
+
 /// What is found where byte n of the log is changed to this.
-fn change_gives(n: usize, byte: u8) -> Found {
-    match (n, byte) {
-        (0, 0xc5) | (4, 14) | (1..=3 | 5..=7, 0) | (8, 1) | (9, 4) | (10, 0..=6) => Ok(1),
-        (0, _) => Ok(0),
-        (1..=3, _) => Err(1),
-        (4, 0..=3) => Err(5),
-        (4, 4) => Err(9),
-        (4, 5) => Err(10),
-        (4, 6..=13) => Err(11),
-        (4, 15) => Err(19),
-        (4, _) => Err(1),
-        (5..=7, _) => Err(19),
-        (8, 0) => Err(9),
-        (8, _) => Err(19),
-        (9, 1 | 5 | 6) => Err(18),
-        (9, 2 | 7) => Err(12),
-        (9, 3) => Err(19),
-        (9, _) => Err(9),
-        (10, _) => Err(10),
-        (19, 0xc5) => Err(20),
+fn change_gives(n: usize, byte: u8) -> Result<usize, u64> {
+    match n {
+        0 => Ok(usize::from(byte == 0xc5)),
+        1..=3 if byte != 0 => Err(1),
+        4 => length_gives(byte),
+        5..=7 if byte != 0 => Err(19),
+        8 if byte == 0 => Err(9),
+        8 if byte != 1 => Err(19),
+        9 => kind_gives(byte),
+        10 if byte > 6 => Err(10),
+        19 if byte == 0xc5 => Err(20),
         _ => Ok(1),
     }
 }
@@ -98,57 +114,69 @@ fn put(store: &mut MemStore, f: FileNo, bytes: &[u8]) -> Result<(), Fail>
     Ok(())
 }
 
-/// The bytes of the file.
-fn bytes_of(alloc: Global, store: &mut MemStore, f: FileNo) -> Result<Vec<u8>, Fail> {
-    let len = store.len(f)?;
-    let mut bytes = vec![in alloc; 0; len as usize]?;
-    store.read(f, 0, &mut bytes)?;
-    Ok(bytes)
+fn meaning(answer: &Result<(CommitLog, LogEntries), LogError>) -> Found {
+    match answer {
+        Ok((_, entries)) => Some(Ok(entries.as_slice().len())),
+        Err(LogError::Damaged(place)) => Some(Err(*place)),
+        Err(_) => None,
+    }
 }
 
-/// What a load finds in a file of these bytes. A damaged one is to stay as it is.
+/// What a load finds in a file of these bytes.
 fn found(alloc: Global, store: &mut MemStore, f: FileNo, bytes: &[u8]) -> Result<Found, Fail> {
     put(store, f, bytes)?;
-    match CommitLog::load(alloc, store, f) {
-        Ok((_, entries)) => Ok(Ok(entries.as_slice().len())),
-        Err(LogError::Damaged(place)) => {
-            if bytes_of(alloc, store, f)?.as_slice() != bytes {
-                return Err("a damaged file was changed".into());
-            }
-            Ok(Err(place))
+    let answer = CommitLog::load(alloc, store, f);
+    Ok(meaning(&answer))
+}
+
+/// Whether each change of byte n of the log gives what it is to give.
+fn changes_are_found(
+    alloc: Global,
+    store: &mut MemStore,
+    f: FileNo,
+    n: usize,
+) -> Result<bool, Fail> {
+    for byte in 0..=255u8 {
+        let mut bytes = LOG;
+        if let Some(slot) = bytes.get_mut(n) {
+            *slot = byte;
         }
-        Err(_) => Err("no load".into()),
+        if found(alloc, store, f, &bytes)? != Some(change_gives(n, byte)) {
+            return Ok(false);
+        }
     }
+    Ok(true)
 }
 
 #[test]
-fn each_front_and_each_change_gives_its_entries_or_place(rt: HostRuntime) -> Result<(), Fail> {
-    let alloc = rt.alloc();
+fn each_front_gives_its_entries_or_place(rt: HostRuntime) -> Result<(), Fail> {
     let f = FileNo::new(0).ok_or("a file")?;
-    let mut store = MemStore::formatted(alloc)?;
+    let mut store = MemStore::formatted(rt.alloc())?;
     for n in 0..=LOG.len() {
-        let answer = found(alloc, &mut store, f, &LOG[..n])?;
-        assert_eq!(rt; answer, front_gives(n), "{n}");
+        let answer = found(rt.alloc(), &mut store, f, &LOG[..n])?;
+        assert_eq!(rt; answer, Some(front_gives(n)), "{n}");
     }
+    Ok(())
+}
+
+#[test]
+fn each_change_gives_its_entries_or_place(rt: HostRuntime) -> Result<(), Fail> {
+    let f = FileNo::new(0).ok_or("a file")?;
+    let mut store = MemStore::formatted(rt.alloc())?;
     for n in 0..LOG.len() {
-        for byte in 0..=255u8 {
-            let mut bytes = LOG;
-            bytes[n] = byte;
-            let answer = found(alloc, &mut store, f, &bytes)?;
-            assert_eq!(rt; answer, change_gives(n, byte), "{n} {byte}");
-        }
+        let right = changes_are_found(rt.alloc(), &mut store, f, n)?;
+        assert!(rt; right, "{n}");
     }
     Ok(())
 }
 
 #[test]
 fn damage_is_told_where_it_comes_first(rt: HostRuntime) -> Result<(), Fail> {
-    let alloc = rt.alloc();
     let f = FileNo::new(0).ok_or("a file")?;
-    let mut store = MemStore::formatted(alloc)?;
+    let mut store = MemStore::formatted(rt.alloc())?;
     for (bytes, place) in DAMAGED {
-        let answer = found(alloc, &mut store, f, bytes)?;
-        assert_eq!(rt; answer, Err(place), "{place}");
+        let answer = found(rt.alloc(), &mut store, f, bytes)?;
+        assert_eq!(rt; answer, Some(Err(place)));
     }
     Ok(())
 }
@@ -175,7 +203,19 @@ enum Event {
     Stops,
 }
 
-/// Appends an entry to what is there, and tells whether it was acknowledged. The event comes at the call of this number.
+/// Lets the event come at the call of this number.
+fn let_come(store: &mut MemStore, event: Event, call: u32, outcome: Outcome)
+    requires { 1 ≤ call }
+    ensures { IsSameDisk store.old store.new }
+{
+    match event {
+        Event::Nothing => {}
+        Event::Fails => store.fail_at(call),
+        Event::Stops => store.stop_at(call, outcome),
+    }
+}
+
+/// Appends an entry to what is there, and tells whether it was acknowledged.
 fn append(
     alloc: Global,
     store: &mut MemStore,
@@ -187,14 +227,10 @@ fn append(
 ) -> Result<bool, Fail>
     requires { 1 ≤ call }
 {
-    let (mut log, _) = left(alloc, store, f, Outcome::Lost)?;
     let entry = decode_entry(alloc, word)?;
+    let (mut log, _) = left(alloc, store, f, Outcome::Lost)?;
     log.reserve(store, &entry)?;
-    match event {
-        Event::Nothing => {}
-        Event::Fails => store.fail_at(call),
-        Event::Stops => store.stop_at(call, outcome),
-    }
+    let_come(store, event, call, outcome);
     Ok(log.append(store, &entry).is_ok())
 }
 
@@ -220,56 +256,100 @@ fn an_empty_log_is_loaded(rt: HostRuntime) -> Result<(), Fail> {
     Ok(())
 }
 
+/// Whether the entry is the one of which this is the word.
+fn is_entry(alloc: Global, entry: &LogEntry, word: &[u8]) -> Result<bool, Fail> {
+    let want = decode_entry(alloc, word)?;
+    let want = format!(in alloc; "{want:?}")?;
+    let text = format!(in alloc; "{entry:?}")?;
+    Ok(text.as_str() == want.as_str())
+}
+
+/// Whether these are the words of the entries.
+fn are_entries(alloc: Global, entries: &[LogEntry], words: &[&[u8]]) -> Result<bool, Fail> {
+    for (entry, word) in entries.iter().zip(words) {
+        if !is_entry(alloc, entry, word)? {
+            return Ok(false);
+        }
+    }
+    Ok(entries.len() == words.len())
+}
+
+/// Whether a crash leaves the entries with these words.
+fn leaves(
+    alloc: Global,
+    store: &mut MemStore,
+    f: FileNo,
+    outcome: Outcome,
+    words: &[&[u8]],
+) -> Result<bool, Fail> {
+    let (_, entries) = left(alloc, store, f, outcome)?;
+    are_entries(alloc, entries.as_slice(), words)
+}
+
 #[test]
 fn appended_entries_are_loaded(rt: HostRuntime) -> Result<(), Fail> {
     let alloc = rt.alloc();
     let f = FileNo::new(1).ok_or("a file")?;
-    let words = [CEILING, ALL_KINDS, GONE];
     let mut store = MemStore::formatted(alloc)?;
-    for word in words {
-        assert!(rt; append_quietly(alloc, &mut store, f, word)?);
-    }
-    let (log, entries) = left(alloc, &mut store, f, Outcome::Torn)?;
-    assert_eq!(rt; entries.as_slice().len(), 3);
-    assert_eq!(rt; log.len(), 13 + 279 + 14 + 16);
-    for (entry, word) in entries.as_slice().iter().zip(words) {
-        let appended = format!(in alloc; "{:?}", decode_entry(alloc, word)?)?;
-        assert_eq!(rt; format!(in alloc; "{entry:?}")?.as_str(), appended.as_str());
-    }
+    assert!(rt; append_quietly(alloc, &mut store, f, CEILING)?);
+    assert!(rt; append_quietly(alloc, &mut store, f, ALL_KINDS)?);
+    assert!(rt; append_quietly(alloc, &mut store, f, GONE)?);
+    let words = [CEILING, ALL_KINDS, GONE];
+    assert!(rt; leaves(alloc, &mut store, f, Outcome::Torn, &words)?);
+    assert_eq!(rt; store.len(f)?, 13 + 279 + 14 + 16);
     Ok(())
 }
 
-/// How many entries there are after one was appended and the event came in the append of another.
-fn after_event(alloc: Global, event: Event, call: u32, outcome: Outcome) -> Result<usize, Fail>
+/// Whether the event in an append leaves the entry before it, and the new one where it is `kept`.
+fn event_leaves(
+    alloc: Global,
+    event: Event,
+    call: u32,
+    outcome: Outcome,
+    kept: bool,
+) -> Result<bool, Fail>
     requires { 1 ≤ call }
 {
     let f = FileNo::new(0).ok_or("a file")?;
     let mut store = MemStore::formatted(alloc)?;
     append_quietly(alloc, &mut store, f, GONE)?;
     if append(alloc, &mut store, f, CEILING, event, call, outcome)? {
-        return Err("the call did not fail".into());
+        return Ok(false);
     }
-    let (_, entries) = left(alloc, &mut store, f, outcome)?;
-    Ok(entries.as_slice().len())
+    if kept {
+        leaves(alloc, &mut store, f, outcome, &[GONE, CEILING])
+    } else {
+        leaves(alloc, &mut store, f, outcome, &[GONE])
+    }
+}
+
+/// Whether each outcome of the event leaves what it is to leave.
+fn outcomes_are_right(alloc: Global, event: Event, call: u32, kept: bool) -> Result<bool, Fail>
+    requires { 1 ≤ call }
+{
+    Ok(
+        event_leaves(alloc, event, call, Outcome::Kept, kept)?
+            && event_leaves(alloc, event, call, Outcome::Lost, false)?
+            && event_leaves(alloc, event, call, Outcome::Torn, false)?,
+    )
 }
 
 #[test]
 fn an_append_that_fails_is_there_whole_or_not(rt: HostRuntime) -> Result<(), Fail> {
-    for event in [Event::Fails, Event::Stops] {
-        for call in 1..=4u32 {
-            for outcome in [Outcome::Kept, Outcome::Lost, Outcome::Torn] {
-                let count = match (event, call, outcome) {
-                    (Event::Stops, 3, Outcome::Kept) | (_, 4, Outcome::Kept) => 2,
-                    _ => 1,
-                };
-                assert!(rt; call >= 1);
-                assert_eq!(rt;
-                    after_event(rt.alloc(), event, call, outcome)?,
-                    count,
-                    "{event:?} at {call} {outcome:?}"
-                );
-            }
-        }
+    let table = [
+        (Event::Fails, 1, false),
+        (Event::Fails, 2, false),
+        (Event::Fails, 3, false),
+        (Event::Fails, 4, true),
+        (Event::Stops, 1, false),
+        (Event::Stops, 2, false),
+        (Event::Stops, 3, true),
+        (Event::Stops, 4, true),
+    ];
+    for (event, call, kept) in table {
+        assert!(rt; call >= 1);
+        let right = outcomes_are_right(rt.alloc(), event, call, kept)?;
+        assert!(rt; right, "{event:?} at {call}");
     }
     Ok(())
 }

@@ -1,9 +1,9 @@
 //! What is kept of a partition beside a plain list of changes, each of which is compared with all others.
 
-use crate::{Arrived, PartitionContent};
 use cell_merge::Content;
 use changes::{Bound, Held, Place, encoded_length, in_order};
 use cs_base::{Bytes, Micros, NodeId, ReqId};
+use partition_content::{Arrived, PartitionContent};
 use std::alloc::{AllocError, Global};
 use std::test::Fail;
 
