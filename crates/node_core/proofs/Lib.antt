@@ -2,3 +2,5 @@ mod Ordered
 mod Sending
 mod Slots
 mod Asking
+mod Bodies
+mod Reading

@@ -25,7 +25,7 @@ use Rattle.node_core.specs.Hearing.{Opens, Moves}
 pub some_not_none : {X : Type 0} (x : X) → Some x ≡ None → ⊥
 some_not_none x e = cc
 
-some_one : {X : Type 0} (x y : X) → Some x ≡ Some y → x ≡ y
+pub some_one : {X : Type 0} (x y : X) → Some x ≡ Some y → x ≡ y
 some_one x y e = cc
 
 -- ---- lists by key

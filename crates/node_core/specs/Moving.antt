@@ -2,7 +2,9 @@
 use Rattle.std.specs.Prelude.{◌≡◌, ◌≤◌, ◌<◌, ◌+◌, ℕ, Option, Some, None, List, [], ◌∷◌, ◌++◌, filter, flat_map, Contains}
 use Rattle.std.specs.List.{AllByRecursion}
 use Rattle.cs_base.specs.declared.ids.ReqId.{ReqId}
+use Rattle.changes.specs.declared.Change.{Change}
 use Rattle.changes.specs.declared.Held.{Held}
+use Rattle.changes.specs.declared.Mutation.{Mutation}
 use Rattle.changes.specs.declared.Query.{Query}
 use Rattle.cs_store.specs.Disk.{Disk}
 use Rattle.row_change.specs.declared.entry.LogItem.{LogItem}
@@ -12,10 +14,11 @@ use Rattle.peer_messages.specs.declared.message.Body.{Body}
 use Rattle.peer_messages.specs.declared.message.Body.TheVariants.{Write, WriteAck, Read, ReadReply}
 use Rattle.peer_messages.specs.declared.outcome.Outbound.{Outbound}
 use Rattle.durable_state.specs.State.{Durable, changes_of}
+use Rattle.durable_state.specs.Taking.{TakesIn}
 use Rattle.durable_state.specs.Keeping.{Commits}
 use Rattle.node_steps.specs.State.{NodeState}
 use Rattle.node_steps.specs.Effects.{Effects}
-use Rattle.node_steps.specs.Replicas.{IsReplyTo, replies as replies_to}
+use Rattle.node_steps.specs.Replicas.{IsAnswerTo, IsReplyTo, replies as replies_to}
 use Rattle.node_steps.specs.Acts.{Act, Asks, Does, Deed, Chain}
 use Rattle.node_steps.specs.Steps.{messages_of, sends_of, entries_of}
 use Rattle.node_steps.specs.Keeping.{kept_by, kept_in}
@@ -27,7 +30,7 @@ use Rattle.node_core.specs.declared.work.Given.{Given}
 use Rattle.node_core.specs.declared.work.Heard.{Heard}
 use Rattle.node_core.specs.declared.work.Work.{Work}
 use Rattle.node_core.specs.Hearing.{AckMoves, ReplyMoves}
-use Rattle.node_core.specs.Working.{state_at, effects_given, own_acts, heard_act, weight_of, weight, BodyFits, IsSent, IsSound}
+use Rattle.node_core.specs.Working.{state_at, effects_given, own_acts, heard_act, weight_of, weight, BodyFits, IsDataAt, IsSent, IsSound}
 
 -- By one move the node goes from what the step made so far to w', and this is given. Whatever the changes make of d, the move is
 -- one from the state that those before it make
@@ -57,6 +60,19 @@ pub record HasMade (b : Base) (s : NodeState) (matters left : List Act) (pending
 
 abbrev pub HasCome : Base → Durable → NodeState → List Act → List Act → List Outbound → Work → Type 0
 HasCome b d s matters left pending w = (d' : Durable) → Commits w.items d d' → HasMade b s matters left pending d' w
+
+-- what is held of the query's rows, before changes of a partition are taken in and behind them
+abbrev pub IsBehind : Mutation → Query → List Held → List Held → Type 0
+IsBehind m q part all =
+    (content content' : List Change) → TakesIn content m.partition m.changes content' → IsAnswerTo content q part → IsAnswerTo content' q all
+
+abbrev pub IsBehindItem : LogItem → Query → List Held → List Held → Type 0
+IsBehindItem (Data arrival m) q part all = IsBehind m q part all
+IsBehindItem i q part all = all ≡ part
+
+abbrev pub AreBehind : List LogItem → Query → List Held → List Held → Type 0
+AreBehind items q part all =
+    (time : ℕ) → AllByRecursion (IsDataAt time) items → (d d' : Durable) → Commits items d d' → IsAnswerTo (changes_of d.content) q part → IsAnswerTo (changes_of d'.content) q all
 
 -- what is held of the query's rows, whatever the changes make of d
 abbrev pub AnswersBehind : List LogItem → Durable → Query → List Held → Type 0
@@ -122,10 +138,10 @@ TakesMatters b honest d w (a ∷ rest) g w' = (rest ≡ []) × TakesMatter b hon
 
 -- ---- a replica that is looked at, and keeps what it kept
 
-pub record Peeks {R : Type 0} (stands_for : (ℕ → List ℕ) → Durable → Type 0) (disk : R → Disk) (durable : R → Durable) (log_end faults : R → ℕ) (honest : Type 0) (old new : R) : Type 0 where
+pub record Peeks {R : Type 0} (stands_for : (ℕ → List ℕ) → Durable → Type 0) (disk : R → Disk) (durable : R → Durable) (log_end count : R → ℕ) (honest : Type 0) (old new : R) : Type 0 where
   pub looked : honest → Looked stands_for disk durable old new
   pub log : log_end new ≡ log_end old
-  pub faults : faults old ≤ faults new
+  pub faults : count old ≤ count new
 
 -- a chain of moves that took each request, with all of these entries that are entered at a stop
 pub record IsCut (b : Base) (s : NodeState) (matters : List Act) (w : Work) : Type 0 where

@@ -1,14 +1,22 @@
 //! How a node hears a body in a step.
 
-ghost use Rattle.std.specs.Prelude.{◌≡◌, ◌<◌, ◌∷◌, ◌++◌, [], IfOk, OnOk, IsErrOf};
+ghost use Rattle.std.specs.Prelude.{◌≡◌, ◌<◌, ◌∷◌, ◌++◌, [], Contains, IfOk, OnOk, IsErrOf};
+ghost use Rattle.std.specs.List.{AllByRecursion};
 ghost use Rattle.std.specs.BTreeMap.{IsOrdered};
 ghost use Rattle.cs_base.specs.Faults.{HasRisen};
 ghost use Rattle.cs_base.specs.Requests.{request_cmp};
+ghost use Rattle.changes.specs.Contents.{IsContent};
+ghost use Rattle.changes.specs.Places.{AreInOrder};
+ghost use Rattle.change_laws.specs.Kept.{Within};
+ghost use Rattle.durable_state.specs.Partitions.{is_partition};
+ghost use Rattle.durable_state.specs.State.{changes_of};
+ghost use Rattle.node_steps.specs.Replicas.{IsAnswerTo};
 ghost use Rattle.row_change.specs.declared.entry.LogItem.TheVariants.{Data};
 ghost use Rattle.peer_messages.specs.declared.message.Body.TheVariants.{WriteAck};
-ghost use Rattle.node_core.specs.Working.{effects_given, IsSlotOf, IsSound, BodyFits, IsOwn, weight};
+ghost use Rattle.node_steps.specs.Effects.{outbound};
+ghost use Rattle.node_core.specs.Working.{effects_given, IsSlotOf, IsDataAt, IsSound, BodyFits, IsOwn, weight};
 ghost use Rattle.node_core.specs.Hearing.{AckMoves, ReplyMoves};
-ghost use Rattle.node_core.specs.Moving.{replies, AnswersBehind, IsReadFor, HasPart, TakesBody, IsHeard, GoesBy, Peeks};
+ghost use Rattle.node_core.specs.Moving.{replies, AnswersBehind, IsBehind, IsBehindItem, AreBehind, IsReadFor, HasPart, TakesBody, IsHeard, GoesBy, Peeks};
 ghost use Rattle.replica.specs.declared.error.CallError.TheVariants as call_error;
 
 use crate::base::Base;
@@ -16,7 +24,7 @@ use crate::hears::{hear_ack, hear_reply};
 use crate::times::is_old;
 use crate::work::{Given, Heard, Work};
 use cell_merge::Content;
-use changes::{Helds, Mutation, Query};
+use changes::{Held, Helds, Mutation, Partition, Query};
 use cs_base::{Items, NodeId, ReqId};
 use peer_messages::{Body, Outbound};
 use replica::{CallError, Replica};
@@ -47,7 +55,7 @@ impl Heard {
 /// What a replica holds of a query's rows.
 fn held<R: Replica>(replica: &mut R, alloc: Global, query: &Query) -> Result<Content, CallError>
     requires whole { R.is_whole replica.old }
-    ensures ok { IfOk result (λ part. R.Disk.is_honest → AnswersBehind [] (R.durable replica.old) query.now part) }
+    ensures ok { IfOk result (λ part. R.Disk.is_honest → IsAnswerTo (changes_of (R.durable replica.old).content) query.now part) }
     ensures peeks { Peeks R.stands_for (λ r. R.Disk.disk (R.disk r)) R.durable R.log_end (λ r. R.Disk.faults (R.disk r)) R.Disk.is_honest replica.old replica.new }
     ensures whole { (IsErrOf result call_error.Failed → ⊥) → R.is_whole replica.new }
     ensures failed { IsErrOf result call_error.Failed → HasRisen (R.Disk.faults (R.disk replica.old)) (R.Disk.faults (R.disk replica.new)) }
@@ -55,41 +63,90 @@ fn held<R: Replica>(replica: &mut R, alloc: Global, query: &Query) -> Result<Con
     replica.content(alloc, &query.partition, &query.from, &query.upto)
 }
 
-/// What of changes meets a query's rows.
-fn met(alloc: Global, changes: &Helds, query: &Query) -> Result<Content, AllocError> {
+fn copied(alloc: Global, changes: &[Held]) -> Result<Helds, AllocError>
+    ensures { IfOk result (λ copies. copies ≡ changes.now) }
+{
     let mut copies = Items::new(alloc);
-    for change in changes.as_slice() {
+    for change in changes {
         copies.push(change.copy(alloc)?)?;
     }
-    Content::from_changes(alloc, copies.into_vec())?.slice(alloc, &query.from, &query.upto)
+    Ok(copies)
 }
 
-/// What is held of a query's rows behind one item more.
+/// What of changes meets a query's rows.
+fn met(alloc: Global, changes: &[Held], query: &Query) -> Result<Content, AllocError>
+    ensures { IfOk result (λ part. IsContent part (Within query.now.from query.now.upto (Contains changes.now))) }
+{
+    let all = Content::from_changes(alloc, copied(alloc, changes)?.into_vec())?;
+    all.slice(alloc, &query.from, &query.upto)
+}
+
+fn is_one(a: &Partition, b: &Partition) -> bool
+    ensures { result ≡ is_partition a.now b.now }
+{
+    a.cmp(b).is_eq()
+}
+
+/// What is held of a query's rows behind changes that are taken in.
 fn behind(
+    alloc: Global,
+    part: Content,
+    mutation: &Mutation,
+    query: &Query,
+) -> Result<Content, AllocError>
+    ensures { IfOk result (λ all. IsBehind mutation.now query.now part all) }
+{
+    if is_one(&mutation.partition, &query.partition) {
+        let more = met(alloc, mutation.changes.as_slice(), query)?;
+        return part.merge(alloc, more);
+    }
+    Ok(part)
+}
+
+/// What is held of a query's rows behind an item.
+fn behind_item(
     alloc: Global,
     part: Content,
     item: &LogItem,
     query: &Query,
-) -> Result<Content, AllocError> {
+) -> Result<Content, AllocError>
+    ensures { IfOk result (λ all. IsBehindItem item.now query.now part all) }
+{
     match item {
-        LogItem::Data(_, mutation) if mutation.partition == query.partition => {
-            part.merge(alloc, met(alloc, &mutation.changes, query)?)
-        }
-        _ => Ok(part),
+        LogItem::Data(_, mutation) => behind(alloc, part, mutation, query),
+        LogItem::Paxos(..)
+        | LogItem::HintAdd(_)
+        | LogItem::HintGone(..)
+        | LogItem::Ceiling(_)
+        | LogItem::Mark(_)
+        | LogItem::Purge(_) => Ok(part),
     }
 }
 
+/// What is held of a query's rows behind all of the changes that the step takes in, in order.
 fn behind_all(
     alloc: Global,
     part: Content,
     items: &[LogItem],
     query: &Query,
-) -> Result<Content, AllocError> {
+) -> Result<Content, AllocError>
+    ensures ok { IfOk result (λ all. AreBehind items.now query.now part all) }
+    ensures ordered { IfOk result (λ all. AreInOrder all) }
+{
     let mut all = part;
     for item in items {
-        all = behind(alloc, all, item, query)?;
+        all = behind_item(alloc, all, item, query)?;
     }
-    Ok(all)
+    Ok(in_order(all))
+}
+
+/// The changes of a content are in order.
+fn in_order(content: Content) -> Content
+    ensures same { result ≡ content }
+    ensures ordered { AreInOrder result }
+{
+    let _changes = content.as_slice();
+    content
 }
 
 /// All that is held of a query's rows behind the changes that the step takes in.
@@ -100,6 +157,7 @@ fn answer<R: Replica>(
     query: &Query,
 ) -> Result<Content, CallError>
     requires whole { R.is_whole replica.old }
+    requires items { (time : _) × AllByRecursion (IsDataAt time) items.now }
     ensures ok { IfOk result (λ part. R.Disk.is_honest → AnswersBehind items.now (R.durable replica.old) query.now part) }
     ensures peeks { Peeks R.stands_for (λ r. R.Disk.disk (R.disk r)) R.durable R.log_end (λ r. R.Disk.faults (R.disk r)) R.Disk.is_honest replica.old replica.new }
     ensures whole { (IsErrOf result call_error.Failed → ⊥) → R.is_whole replica.new }
@@ -117,6 +175,7 @@ fn read_for<R: Replica>(
     body: &Body,
 ) -> Result<Option<Content>, CallError>
     requires whole { R.is_whole replica.old }
+    requires items { (time : _) × AllByRecursion (IsDataAt time) items.now }
     ensures ok { IfOk result (λ part. R.Disk.is_honest → IsReadFor items.now (R.durable replica.old) body.now part) }
     ensures peeks { Peeks R.stands_for (λ r. R.Disk.disk (R.disk r)) R.durable R.log_end (λ r. R.Disk.faults (R.disk r)) R.Disk.is_honest replica.old replica.new }
     ensures whole { (IsErrOf result call_error.Failed → ⊥) → R.is_whole replica.new }
@@ -128,17 +187,25 @@ fn read_for<R: Replica>(
     }
 }
 
+/// The body on its way back to who asked.
+fn sent_back(asker: Asker, body: Body) -> Outbound
+    ensures { result ≡ outbound asker.request body asker.from }
+{
+    let request = asker.request;
+    Outbound {
+        upto: asker.from,
+        born: request.time,
+        request,
+        body,
+    }
+}
+
 /// The body goes back to who asked.
 fn reply(alloc: Global, asker: Asker, body: Body) -> Result<Given, AllocError>
     ensures { IfOk result (λ given. effects_given given ≡ replies asker body) }
 {
     let mut sends = Items::new(alloc);
-    sends.push(Outbound {
-        upto: asker.from,
-        born: asker.request.time,
-        request: asker.request,
-        body,
-    })?;
+    sends.push(sent_back(asker, body))?;
     Ok(Given {
         sends,
         entries: Items::new(alloc),

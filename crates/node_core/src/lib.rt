@@ -7,6 +7,7 @@ mod base;
 mod fits;
 mod hearing;
 mod hears;
+mod keep;
 mod slot;
 mod times;
 mod work;
