@@ -4,3 +4,4 @@ mod Slots
 mod Asking
 mod Bodies
 mod Reading
+mod Coming

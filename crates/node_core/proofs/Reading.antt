@@ -1,5 +1,5 @@
 -- What is held of a query's rows, behind changes that are taken in.
-use Rattle.std.proofs.Common.{◌≡◌, ◌≢◌, inl, inr, ℕ, true, false, List, [], ◌∷◌, ◌++◌, Contains, refl, sym, ap, subst, ◌∙◌}
+use Rattle.std.proofs.Common.{◌≡◌, ◌≢◌, ◌↔◌, inl, inr, ℕ, true, false, List, [], ◌∷◌, ◌++◌, Contains, refl, sym, ap, subst, ◌∙◌}
 use Rattle.std.specs.Ordering.{is_eq}
 use Rattle.std.specs.declared.cmp.Ordering.{Ordering}
 use Rattle.std.specs.declared.cmp.Ordering.TheVariants.{Less, Equal, Greater}
@@ -88,25 +88,25 @@ other_partition a b f same = true_false (sym (ap is_eq (subst (λ (p : Partition
 -- ---- items
 
 pub behind_none : (q : Query) (part : List Held) → AreBehind [] q part part
-behind_none q part time data d d' commits answers = subst (λ (x : Durable). IsAnswerTo (changes_of x.content) q part) (sym commits) answers
+behind_none q part time are d d' commits answers = subst (λ (x : Durable). IsAnswerTo (changes_of x.content) q part) (sym commits) answers
 
 item_behind : (time : ℕ) (i : LogItem) (q : Query) (part all : List Held) (d d' : Durable) → IsDataAt time i → TakesItem i d d' → IsBehindItem i q part all → IsAnswerTo (changes_of d.content) q part → IsAnswerTo (changes_of d'.content) q all
-item_behind time (Data arrival m) q part all d d' data takes behind answers = behind (changes_of d.content) (changes_of d'.content) takes.0 answers
-item_behind time (Paxos p row) q part all d d' data takes behind answers = absurd data
-item_behind time (HintAdd h) q part all d d' data takes behind answers = absurd data
-item_behind time (HintGone peer number) q part all d d' data takes behind answers = absurd data
-item_behind time (Ceiling t) q part all d d' data takes behind answers = absurd data
-item_behind time (Mark m) q part all d d' data takes behind answers = absurd data
-item_behind time (Purge x) q part all d d' data takes behind answers = absurd data
+item_behind time (Data arrival m) q part all d d' are takes behind answers = behind (changes_of d.content) (changes_of d'.content) takes.0 answers
+item_behind time (Paxos p row) q part all d d' are takes behind answers = absurd are
+item_behind time (HintAdd h) q part all d d' are takes behind answers = absurd are
+item_behind time (HintGone peer number) q part all d d' are takes behind answers = absurd are
+item_behind time (Ceiling t) q part all d d' are takes behind answers = absurd are
+item_behind time (Mark m) q part all d d' are takes behind answers = absurd are
+item_behind time (Purge x) q part all d d' are takes behind answers = absurd are
 
 all_parts : {X : Type 0} (P : X → Type 0) (xs : List X) (x : X) → AllByRecursion P (xs ++ x ∷ []) → AllByRecursion P xs × P x
 all_parts {X} P [] x all = (tt, all.0)
 all_parts {X} P (y ∷ ys) x all = let rest = all_parts P ys x all.1 in ((all.0, rest.0), rest.1)
 
 pub behind_more : (items : List LogItem) (i : LogItem) (q : Query) (part mid all : List Held) → AreBehind items q part mid → IsBehindItem i q mid all → AreBehind (items ++ i ∷ []) q part all
-behind_more items i q part mid all first next time data d d' commits answers =
+behind_more items i q part mid all first next time are d d' commits answers =
     let parts = commits_parts items (i ∷ []) d d' commits in
-    let datas = all_parts (IsDataAt time) items i data in
+    let datas = all_parts (IsDataAt time) items i are in
     let rest = parts.2 in
     let at_mid = first time datas.0 d parts.0 parts.1 answers in
     subst (λ (x : Durable). IsAnswerTo (changes_of x.content) q all) (sym rest.2) (item_behind time i q mid all parts.0 rest.0 datas.1 rest.1 next at_mid)

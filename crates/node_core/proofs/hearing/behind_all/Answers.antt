@@ -13,8 +13,8 @@ loop-item-init c = behind_none c.args.query.now c.args.part
 
 pub loop-item-preserved : goal.loop-item-preserved
 loop-item-preserved c =
-    subst (λ (xs : List LogItem). AreBehind xs c.args.query.now c.args.part c.in_ok-all.all) (sym (front_more c.args.items.now c.loop-item.item-index c.item-item.result.now c.loop-item-test.true c.item-item.is))
-    (behind_more (take c.loop-item.item-index c.args.items.now) c.item-item.result.now c.args.query.now c.args.part c.loop-item.all c.in_ok-all.all c.loop-item.invariant c.in_ok-all.ensures)
+    subst (λ (xs : List LogItem). AreBehind xs c.args.query.now c.args.part c.in_ok-all.all) (sym (front_more c.args.items.now c.loop-item.item-index c.item-item.result c.loop-item-test.true c.item-item.is))
+    (behind_more (take c.loop-item.item-index c.args.items.now) c.item-item.result c.args.query.now c.args.part c.loop-item.all c.in_ok-all.all c.loop-item.invariant c.in_ok-all.ensures)
 
 pub returns-clause-ok : goal.returns-clause-ok
 returns-clause-ok c =
