@@ -1,8 +1,7 @@
-pub mod Open
-pub mod Stored
-pub mod Chains
-pub mod Arrivals
-pub mod Taken
-pub mod Upto
-pub mod Matters
-pub mod Whole
+mod Ordered
+mod Sending
+mod Slots
+mod Asking
+mod Bodies
+mod Reading
+mod Coming

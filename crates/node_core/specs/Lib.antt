@@ -1,5 +1,6 @@
-pub mod Views
-pub mod Stores
-pub mod Gives
-pub mod Sites
-pub mod Here
+pub mod Slots
+pub mod Nodes
+pub mod Working
+pub mod Hearing
+pub mod Asking
+pub mod Moving
