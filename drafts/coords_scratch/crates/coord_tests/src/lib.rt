@@ -1,0 +1,7 @@
+//! Tests of coordinators.
+#![tactic(auto)]
+
+#[cfg(test)]
+mod reads;
+#[cfg(test)]
+mod writes;
