@@ -1,6 +1,6 @@
 -- The content after one change, and after several.
 use Rattle.std.proofs.Common.{◌≡◌, ◌≢◌, ℕ, ◌+◌, ◌≤◌, ◌⊎◌, ◌↔◌, inl, inr, Bool, true, false, List, [], ◌∷◌, Option, Some, None, IsSome, Contains, refl, sym, ◌∙◌, ap, subst, arith, IsTrue}
-use Rattle.std.specs.BTreeMap.{get, keys, is_at}
+use Rattle.std.specs.BTreeMap.{is_at}
 use Rattle.std.specs.List.{sum_by}
 use Rattle.std.specs.Option.{option_to_list}
 use Rattle.std.proofs.lemmas.List.Sums.{sum_by-cons}
@@ -19,7 +19,7 @@ use Rattle.change_laws.proofs.Outranking.{Outranks_irrefl}
 use Rattle.partition_content.specs.declared.spots.Spot.{Spot}
 use Rattle.partition_content.specs.declared.spots.Spot.TheVariants.{At}
 use Rattle.partition_content.specs.Spots.{spot_cmp}
-use Rattle.partition_content.specs.Slots.{SlotMap, changes_of, change_in, AreFiled, HasSlot, AreCleared, IsLostWith, AreLost, IsReachedAt, IsGood}
+use Rattle.partition_content.specs.Slots.{SlotMap, changes_of, change_in, AreFiled, HasSlot, AreCleared, IsLostWith, AreLost, IsReachedAt, IsGood, slot_at, spots_in}
 use Rattle.std.proofs.lemmas.Bool.{both_ways}
 use Rattle.partition_content.proofs.SpotLemmas.{spot_found, place_kept}
 use Rattle.partition_content.proofs.SlotLemmas.{from_changes, to_changes, cleared_keys, cleared_from, cleared_to, lost_length, sum_changes}
@@ -112,9 +112,9 @@ put_length es fs gs x n filed free slot clear lost e =
 
 -- ---- as the code puts it in
 
-pub put_room : (old cleared : SlotMap) (x : Held) (at : Spot) → at ≡ At x.place → HasSlot old x.place → keys cleared ≡ keys old → IsSome (get spot_cmp cleared at)
+pub put_room : (old cleared : SlotMap) (x : Held) (at : Spot) → at ≡ At x.place → HasSlot old x.place → spots_in cleared ≡ spots_in old → IsSome (slot_at cleared at)
 put_room old cleared x at is slot same =
-    subst (λ (s : Spot). IsSome (get spot_cmp cleared s)) (sym is) (slot_found x.place cleared (subst (λ (l : List Spot). Contains l (At x.place)) (sym same) slot))
+    subst (λ (s : Spot). IsSome (slot_at cleared s)) (sym is) (slot_found x.place cleared (subst (λ (l : List Spot). Contains l (At x.place)) (sym same) slot))
 
 -- the entries after a change was put in
 pub record IsPut (old middle new : SlotMap) (x : Held) : Type 0 where
@@ -124,19 +124,19 @@ pub record IsPut (old middle new : SlotMap) (x : Held) : Type 0 where
   pub slot : IsSome (lookup (is_at (spot_cmp (At x.place))) middle.entries)
   pub entries : new.entries ≡ set_value (is_at (spot_cmp (At x.place))) middle.entries (Some x)
 
-pub is_put : (old middle new : SlotMap) (x : Held) (at : Spot) (b : Bool) → IsGood old → at ≡ At x.place → HasSlot old x.place → (IsReachedBy (changes_of old.entries) x → IsReachedAt (change_in (get spot_cmp old (At x.place))) x) → (IsTrue b ↔ IsReachedAt (change_in (get spot_cmp old at)) x) → b ≡ false → AreCleared x old.entries middle.entries → keys middle ≡ keys old → new.entries ≡ set_value (is_at (spot_cmp at)) middle.entries (Some x) → IsPut old middle new x
+pub is_put : (old middle new : SlotMap) (x : Held) (at : Spot) (b : Bool) → IsGood old → at ≡ At x.place → HasSlot old x.place → (IsReachedBy (changes_of old.entries) x → IsReachedAt (change_in (slot_at old (At x.place))) x) → (IsTrue b ↔ IsReachedAt (change_in (slot_at old at)) x) → b ≡ false → AreCleared x old.entries middle.entries → spots_in middle ≡ spots_in old → new.entries ≡ set_value (is_at (spot_cmp at)) middle.entries (Some x) → IsPut old middle new x
 is_put old middle new x at b good is slot own told f clear same e = record {
   good = good;
-  free = λ r. both_ways b f (told.1 (subst (λ (s : Spot). IsReachedAt (change_in (get spot_cmp old s)) x) (sym is) (own r)));
+  free = λ r. both_ways b f (told.1 (subst (λ (s : Spot). IsReachedAt (change_in (slot_at old s)) x) (sym is) (own r)));
   cleared = clear;
-  slot = subst (λ (s : Spot). IsSome (get spot_cmp middle s)) is (put_room old middle x at is slot same);
+  slot = subst (λ (s : Spot). IsSome (slot_at middle s)) is (put_room old middle x at is slot same);
   entries = subst (λ (s : Spot). new.entries ≡ set_value (is_at (spot_cmp s)) middle.entries (Some x)) is e;
 }
 
 pub put_is_content : (old middle new : SlotMap) (x : Held) → IsPut old middle new x → IsContent (changes_of new.entries) (Either (Contains (changes_of old.entries)) (λ y. x ≡ y))
 put_is_content old middle new x p = put_content old.entries middle.entries new.entries x p.good.filed p.good.apart p.free p.slot p.cleared p.entries
 
-pub put_same_keys : (old middle new : SlotMap) (x : Held) → IsPut old middle new x → keys new ≡ keys old
+pub put_same_keys : (old middle new : SlotMap) (x : Held) → IsPut old middle new x → spots_in new ≡ spots_in old
 put_same_keys old middle new x p = put_keys old.entries middle.entries new.entries x p.cleared p.entries
 
 pub put_is_good : (old middle new : SlotMap) (x : Held) → IsPut old middle new x → IsGood new

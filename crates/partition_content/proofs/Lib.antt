@@ -1,4 +1,6 @@
 mod SpotLemmas
+mod HeldLemmas
+mod ArrivalLemmas
 mod SlotLemmas
 mod OrderLemmas
 mod PutLemmas

@@ -1,7 +1,6 @@
 -- Memory that is taken for changes, one after another, and the changes put in.
 use Rattle.std.proofs.Common.{◌≡◌, ℕ, ◌+◌, ◌<◌, inl, inr, List, [], ◌∷◌, ◌++◌, length, get_or, map, suc, Contains, Option, Some, None, Bool, true, false, not, ◌&&◌, is_some, refl, sym, ◌∙◌, ap, subst, arith, length-append, append_assoc, append-nil}
 use Rattle.std.specs.Option.{SomeIff}
-use Rattle.std.specs.BTreeMap.{keys}
 use Rattle.std.specs.List.{sum_by}
 use Rattle.std.proofs.lemmas.List.{map-append}
 use Rattle.std.proofs.lemmas.List.Elements.{Contains-append_left, Contains-push_cases, Contains-push}
@@ -17,7 +16,7 @@ use Rattle.partition_content.specs.declared.spots.Spot.{Spot}
 use Rattle.partition_content.specs.declared.spots.Spot.TheVariants.{At}
 use Rattle.partition_content.specs.declared.keys.Keys.{Keys}
 use Rattle.partition_content.specs.Keys.{keys_for}
-use Rattle.partition_content.specs.Slots.{SlotMap, changes_of, HasSlot}
+use Rattle.partition_content.specs.Slots.{SlotMap, changes_of, HasSlot, spots_in}
 use Rattle.partition_content.specs.declared.memory.Ready.{Ready}
 use Rattle.cell_merge.specs.Parts.{IsInnermost}
 use Rattle.partition_content.specs.Partition.{place_of, place_of_keys, places_in, AreSlotsFor, AreBare, IsReady, AreTaken, is_narrow, is_narrow_at}
@@ -29,11 +28,11 @@ keys_more bare so_far now front more x own e is own_is split =
     split ∙ ap (λ (l : List Keys). l ++ own ∷ []) is ∙ ap (λ (k : Keys). map (keys_for bare) (map place_of front) ++ k ∷ []) own_is
     ∙ sym (map-append (keys_for bare) (map place_of front) (x.place ∷ [])) ∙ ap (map (keys_for bare)) (sym (map-append place_of front (x ∷ []))) ∙ ap (λ (l : List Held). map (keys_for bare) (map place_of l)) (sym e)
 
-pub slots_more : (bare : Bool) (old now : SlotMap) (front more : List Held) (x : Held) (own : Keys) → more ≡ front ++ x ∷ [] → AreSlotsFor old front → ((s : Spot) → Contains (keys old) s → Contains (keys now) s) → own ≡ keys_for bare x.place → Contains (keys now) own.at → AreSlotsFor now more
+pub slots_more : (bare : Bool) (old now : SlotMap) (front more : List Held) (x : Held) (own : Keys) → more ≡ front ++ x ∷ [] → AreSlotsFor old front → ((s : Spot) → Contains (spots_in old) s → Contains (spots_in now) s) → own ≡ keys_for bare x.place → Contains (spots_in now) own.at → AreSlotsFor now more
 slots_more bare old now front more x own e so_far others is there y h =
     elim (Contains-push_cases front x y (subst (λ (l : List Held). Contains l y) e h)) [
       | inl before ↦ others (At y.place) (so_far y before)
-      | inr same ↦ subst (λ (v : Held). HasSlot now v.place) same (subst (λ (k : Keys). Contains (keys now) k.at) is there)
+      | inr same ↦ subst (λ (v : Held). HasSlot now v.place) same (subst (λ (k : Keys). Contains (spots_in now) k.at) is there)
     ]
 
 -- ---- changes put in one after another
@@ -64,7 +63,7 @@ key_within bare ks all front it rest x at is split next count =
 pub count_more : (front : List Held) (x : Held) (at : ℕ) → at ≡ length front → at + 1 ≡ length (front ++ x ∷ [])
 count_more front x at count = let e = length-append front (x ∷ []) in omega (arith, e, count)
 
-pub next_slot : (old now : SlotMap) (all front it rest : List Held) (x : Held) → AreSlotsFor old all → keys now ≡ keys old → front ++ it ≡ all → it ≡ x ∷ rest → HasSlot now x.place
+pub next_slot : (old now : SlotMap) (all front it rest : List Held) (x : Held) → AreSlotsFor old all → spots_in now ≡ spots_in old → front ++ it ≡ all → it ≡ x ∷ rest → HasSlot now x.place
 next_slot old now all front it rest x slots same split next =
     subst (λ (l : List Spot). Contains l (At x.place)) (sym same)
     (slots x (subst (λ (l : List Held). Contains l x) split (Contains-append_right front it x (subst (λ (l : List Held). Contains l x) (sym next) (contains_here x rest)))))

@@ -1,7 +1,7 @@
 -- The changes stand in the tree in the order of their places; memory that is taken or given back changes nothing.
 use Rattle.std.proofs.Common.{◌≡◌, ◌⊎◌, inl, inr, Bool, true, false, cond, List, [], ◌∷◌, ◌++◌, Option, Some, None, is_some, Contains, filter, refl, sym, ◌∙◌, ap, subst}
 use Rattle.std.specs.Option.{option_to_list}
-use Rattle.std.specs.BTreeMap.{keys, is_at, insert_entry}
+use Rattle.std.specs.BTreeMap.{is_at, insert_entry}
 use Rattle.std.specs.List.{AllByRecursion}
 use Rattle.std.specs.List.Sorted.{IsStrictlySortedBy}
 use Rattle.std.specs.Map.{keys_of, lookup, remove_entry}
@@ -18,7 +18,8 @@ use Rattle.cs_base.proofs.Members.{contains_nil, contains_here, contains_there, 
 use Rattle.partition_content.specs.declared.spots.Spot.{Spot}
 use Rattle.partition_content.specs.declared.spots.Spot.TheVariants.{At}
 use Rattle.partition_content.specs.Spots.{spot_cmp}
-use Rattle.partition_content.specs.Slots.{SlotMap, changes_of, change_in, AreFiled, AreCleared, IsCleared, IsGood}
+use Rattle.partition_content.specs.declared.Arrived.{Arrived}
+use Rattle.partition_content.specs.Slots.{SlotMap, stored_of, stored_in, held_in, helds_in, changes_of, AreFiled, AreCleared, IsCleared, IsGood, spots_in}
 use Rattle.partition_content.proofs.SpotLemmas.{key_exact}
 use Rattle.partition_content.proofs.SlotLemmas.{at_place}
 
@@ -61,14 +62,14 @@ changes_in_order (e ∷ es) filed sorted =
 
 -- ---- memory taken
 
-inserted_at : (o : Ordering) (k : Spot) (e : Spot × Option Held) (es more : List (Spot × Option Held)) (r : Option (Option Held)) → cond (is_eq o) (Some e.1) r ≡ None → (r ≡ None → changes_of more ≡ changes_of es) → changes_of (match_ordering o ((k, None) ∷ e ∷ es) ((e.0, None) ∷ es) (e ∷ more)) ≡ changes_of (e ∷ es)
+inserted_at : (o : Ordering) (k : Spot) (e : Spot × Option Arrived) (es more : List (Spot × Option Arrived)) (r : Option (Option Arrived)) → cond (is_eq o) (Some e.1) r ≡ None → (r ≡ None → stored_of more ≡ stored_of es) → stored_of (match_ordering o ((k, None) ∷ e ∷ es) ((e.0, None) ∷ es) (e ∷ more)) ≡ stored_of (e ∷ es)
 inserted_at Less k e es more r h rest = refl
 inserted_at Equal k e es more r h rest = cc
-inserted_at Greater k e es more r h rest = ap (λ (l : List Held). option_to_list e.1 ++ l) (rest h)
+inserted_at Greater k e es more r h rest = ap (λ (l : List Arrived). option_to_list e.1 ++ l) (rest h)
 
-pub inserted_changes : (es : List (Spot × Option Held)) (k : Spot) → lookup (is_at (spot_cmp k)) es ≡ None → changes_of (insert_entry spot_cmp es k None) ≡ changes_of es
-inserted_changes [] k h = refl
-inserted_changes (e ∷ es) k h = inserted_at (spot_cmp k e.0) k e es (insert_entry spot_cmp es k None) (lookup (is_at (spot_cmp k)) es) h (λ r. inserted_changes es k r)
+pub inserted_stored : (es : List (Spot × Option Arrived)) (k : Spot) → lookup (is_at (spot_cmp k)) es ≡ None → stored_of (insert_entry spot_cmp es k None) ≡ stored_of es
+inserted_stored [] k h = refl
+inserted_stored (e ∷ es) k h = inserted_at (spot_cmp k e.0) k e es (insert_entry spot_cmp es k None) (lookup (is_at (spot_cmp k)) es) h (λ r. inserted_stored es k r)
 
 from_inserted_at : (o : Ordering) (k : Spot) (e d : Spot × Option Held) (es more : List (Spot × Option Held)) → (Contains more d → Contains es d ⊎ (d.1 ≡ None)) → Contains (match_ordering o ((k, None) ∷ e ∷ es) ((e.0, None) ∷ es) (e ∷ more)) d → Contains (e ∷ es) d ⊎ (d.1 ≡ None)
 from_inserted_at Less k e d es more rest h =
@@ -114,7 +115,7 @@ eq_tells Less h = cc
 eq_tells Equal h = refl
 eq_tells Greater h = cc
 
-pub key_there : (k : Spot) (es : List (Spot × Option Held)) → is_some (lookup (is_at (spot_cmp k)) es) ≡ true → Contains (keys_of es) k
+pub key_there : (k : Spot) (es : List (Spot × Option Arrived)) → is_some (lookup (is_at (spot_cmp k)) es) ≡ true → Contains (keys_of es) k
 key_there k [] h = cc
 key_there k (e ∷ es) h =
     elim (cases_Bool (is_at (spot_cmp k) e.0)) [
@@ -122,17 +123,17 @@ key_there k (e ∷ es) h =
       | inr f ↦ contains_there e.0 (keys_of es) k (key_there k es (subst (λ (b : Bool). is_some (cond b (Some e.1) (lookup (is_at (spot_cmp k)) es)) ≡ true) f h))
     ]
 
-pub none_is : (o : Option (Option Held)) (b : Bool) → b ≡ is_some o → b ≡ false → o ≡ None
+pub none_is : (o : Option (Option Arrived)) (b : Bool) → b ≡ is_some o → b ≡ false → o ≡ None
 none_is None b e f = refl
 none_is (Some v) b e f = cc
 
 -- ---- memory given back
 
-nothing_removed_at : (b : Bool) (e : Spot × Option Held) (es more : List (Spot × Option Held)) (o : Option (Option Held)) → change_in (cond b (Some e.1) o) ≡ None → (change_in o ≡ None → changes_of more ≡ changes_of es) → changes_of (cond b es (e ∷ more)) ≡ changes_of (e ∷ es)
-nothing_removed_at true e es more o h rest = sym (ap (λ (v : Option Held). option_to_list v ++ changes_of es) h)
-nothing_removed_at false e es more o h rest = ap (λ (l : List Held). option_to_list e.1 ++ l) (rest h)
+nothing_removed_at : (b : Bool) (e : Spot × Option Arrived) (es more : List (Spot × Option Arrived)) (o : Option (Option Arrived)) → stored_in (cond b (Some e.1) o) ≡ None → (stored_in o ≡ None → stored_of more ≡ stored_of es) → stored_of (cond b es (e ∷ more)) ≡ stored_of (e ∷ es)
+nothing_removed_at true e es more o h rest = sym (ap (λ (v : Option Arrived). option_to_list v ++ stored_of es) h)
+nothing_removed_at false e es more o h rest = ap (λ (l : List Arrived). option_to_list e.1 ++ l) (rest h)
 
-pub nothing_removed : (t : Spot → Bool) (es : List (Spot × Option Held)) → change_in (lookup t es) ≡ None → changes_of (remove_entry t es) ≡ changes_of es
+pub nothing_removed : (t : Spot → Bool) (es : List (Spot × Option Arrived)) → stored_in (lookup t es) ≡ None → stored_of (remove_entry t es) ≡ stored_of es
 nothing_removed t [] h = refl
 nothing_removed t (e ∷ es) h = nothing_removed_at (t e.0) e es (remove_entry t es) (lookup t es) h (λ k. nothing_removed t es k)
 
@@ -150,15 +151,6 @@ from_removed t (e ∷ es) d h = from_removed_at (t e.0) e d es (remove_entry t e
 
 pub removed_filed : (t : Spot → Bool) (es fs : List (Spot × Option Held)) → fs ≡ remove_entry t es → AreFiled es → AreFiled fs
 removed_filed t es fs e filed s x h = filed s x (from_removed t es (s, Some x) (subst (λ (l : List (Spot × Option Held)). Contains l (s, Some x)) e h))
-
-used_at : (e : Spot × Option Held) (rest es : List (Spot × Option Held)) (o : Option Held) → e.1 ≡ o → changes_of rest ≡ changes_of es → changes_of (cond (is_some o) (e ∷ rest) rest) ≡ changes_of (e ∷ es)
-used_at e rest es None is h = h ∙ ap (λ (v : Option Held). option_to_list v ++ changes_of es) (sym is)
-used_at e rest es (Some x) is h = ap (λ (l : List Held). option_to_list e.1 ++ l) h
-
--- without memory that no change has
-pub used_changes : (es : List (Spot × Option Held)) → changes_of (filter (λ e. is_some e.1) es) ≡ changes_of es
-used_changes [] = refl
-used_changes (e ∷ es) = used_at e (filter (λ d. is_some d.1) es) es e.1 refl (used_changes es)
 
 from_filter_at : (b : Bool) (e d : Spot × Option Held) (es more : List (Spot × Option Held)) → (Contains more d → Contains es d) → Contains (cond b (e ∷ more) more) d → Contains (e ∷ es) d
 from_filter_at false e d es more rest h = contains_there {X = Spot × Option Held} e es d (rest h)
@@ -181,26 +173,20 @@ pub to_filter : (p : Spot × Option Held → Bool) (es : List (Spot × Option He
 to_filter p [] d h t = h
 to_filter p (e ∷ es) d h t = to_filter_at (p e) e d es (filter p es) (λ same. ap p same ∙ t) (λ k. to_filter p es d k t) h
 
-pub used_filed : (es fs : List (Spot × Option Held)) → fs ≡ filter (λ e. is_some e.1) es → AreFiled es → AreFiled fs
-used_filed es fs e filed s x h = filed s x (from_filter (λ d. is_some d.1) es (s, Some x) (subst (λ (l : List (Spot × Option Held)). Contains l (s, Some x)) e h))
-
 -- ---- clearing, by a closure
 
-pub cleared_by : {F : Type 0} (x : Held) (T : F → Spot → Option Held → Bool → Option Held → F → Type 0) (f : F) → ((k : Spot) (v : Option Held) (b : Bool) (w : Option Held) (f' : F) → T f k v b w f' → (b ≡ true) × IsCleared x v w × (f' ≡ f)) → (es fs : List (Spot × Option Held)) → RetainsPairs T f es fs → AreCleared x es fs
-cleared_by x T f step [] fs h = h
+pub cleared_by : {F : Type 0} (x : Held) (T : F → Spot → Option Arrived → Bool → Option Arrived → F → Type 0) (f : F) → ((k : Spot) (v : Option Arrived) (b : Bool) (w : Option Arrived) (f' : F) → T f k v b w f' → (b ≡ true) × IsCleared x (held_in v) (held_in w) × (f' ≡ f)) → (es fs : List (Spot × Option Arrived)) → RetainsPairs T f es fs → AreCleared x (helds_in es) (helds_in fs)
+cleared_by x T f step [] fs h = ap helds_in h
 cleared_by {F} x T f step (e ∷ es) fs (b, w, g, rest, call, more, split) =
     let s = step e.0 e.1 b w g call in
-    (w, rest, s.1, cleared_by x T f step es rest (subst (λ (v : F). RetainsPairs T v es rest) s.2 more), split ∙ ap (λ (c : Bool). cond c ((e.0, w) ∷ rest) rest) s.0)
+    (held_in w, helds_in rest, s.1, cleared_by x T f step es rest (subst (λ (v : F). RetainsPairs T v es rest) s.2 more), ap helds_in (split ∙ ap (λ (c : Bool). cond c ((e.0, w) ∷ rest) rest) s.0))
 
-filter_whole : (es : List (Spot × Option Held)) → filter (λ (e : Spot × Option Held). true) es ≡ es
-filter_whole [] = refl
-filter_whole (e ∷ es) = ap (λ (l : List (Spot × Option Held)). e ∷ l) (filter_whole es)
-
-pub between_whole : (es : List (Spot × Option Held)) → filter (λ (e : Spot × Option Held). true) es ≡ es
-between_whole es = filter_whole es
+pub between_whole : (es : List (Spot × Option Arrived)) → filter (λ (e : Spot × Option Arrived). true) es ≡ es
+between_whole [] = refl
+between_whole (e ∷ es) = ap (λ (l : List (Spot × Option Arrived)). e ∷ l) (between_whole es)
 
 -- a change of memory alone leaves the content
-pub good_still : (old new : SlotMap) → IsGood old → changes_of new.entries ≡ changes_of old.entries → (AreFiled old.entries → AreFiled new.entries) → (IsStrictlySortedBy spot_cmp (keys old) → IsStrictlySortedBy spot_cmp (keys new)) → IsGood new
+pub good_still : (old new : SlotMap) → IsGood old → changes_of new.entries ≡ changes_of old.entries → (AreFiled old.entries → AreFiled new.entries) → (IsStrictlySortedBy spot_cmp (spots_in old) → IsStrictlySortedBy spot_cmp (spots_in new)) → IsGood new
 good_still old new good same filed sorted = record {
   sorted = sorted good.sorted;
   filed = filed good.filed;

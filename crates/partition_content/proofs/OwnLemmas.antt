@@ -1,6 +1,6 @@
 -- A cell or a marker is put in at its key, and nothing else is changed.
 use Rattle.std.proofs.Common.{◌≡◌, ℕ, ◌+◌, ◌≤◌, inl, inr, Bool, cond, List, [], ◌∷◌, Option, Some, None, IsSome, Contains, refl, sym, ◌∙◌, ap, subst, arith}
-use Rattle.std.specs.BTreeMap.{get, is_at}
+use Rattle.std.specs.BTreeMap.{is_at}
 use Rattle.std.specs.List.Sorted.{IsStrictlySortedBy}
 use Rattle.std.specs.Map.{keys_of, lookup, set_value}
 use Rattle.std.specs.Ordering.{ordering_reverse}
@@ -15,9 +15,12 @@ use Rattle.cell_merge.specs.Parts.{IsInnermost}
 use Rattle.partition_content.specs.declared.spots.Spot.{Spot}
 use Rattle.partition_content.specs.declared.spots.Spot.TheVariants.{At}
 use Rattle.partition_content.specs.Spots.{spot_cmp}
-use Rattle.partition_content.specs.Slots.{SlotMap, changes_of, change_in, AreFiled, AreCleared, AreLost, IsReachedAt, IsPutIn, IsPutAt, IsGood}
+use Rattle.partition_content.specs.declared.Arrived.{Arrived}
+use Rattle.partition_content.specs.Slots.{SlotMap, SlotTree, held_in, helds_in, helds_of, ComesAlone, changes_of, change_in, AreFiled, AreCleared, AreLost, IsReachedAt, IsPutIn, IsPutAt, IsGood, slot_at}
 use Rattle.partition_content.specs.Partition.{IsTakenIn}
 use Rattle.partition_content.proofs.SpotLemmas.{place_kept}
+use Rattle.partition_content.proofs.HeldLemmas.{helds-found, helds-set_value}
+use Rattle.partition_content.proofs.ArrivalLemmas.{comes_own}
 use Rattle.partition_content.proofs.SlotLemmas.{to_changes}
 use Rattle.partition_content.proofs.PutLemmas.{found_at}
 use Rattle.partition_content.proofs.ReachLemmas.{own_reaches}
@@ -129,15 +132,19 @@ own_taken es gs x (Some y) w before after sorted filed apart narrow own found (i
     (lost_at_key x (At x.place) es (Some y) (held_length y) sorted only found (inl (over, omega arith))) long (omega (arith, e))
     (is ∙ ap (λ (o : Option Held). set_value (is_at (spot_cmp (At x.place))) es o) new)
 
-change_found : (slots : SlotMap) (s : Spot) (v : Option Held) → lookup (is_at (spot_cmp s)) slots.entries ≡ Some v → change_in (get spot_cmp slots s) ≡ v
+change_found : (slots : SlotMap) (s : Spot) (v : Option Held) → lookup (is_at (spot_cmp s)) slots.entries ≡ Some v → change_in (slot_at slots s) ≡ v
 change_found slots s v found = ap change_in found
 
-pub cell_taken : (old new : SlotMap) (x : Held) (at : Spot) (before after : ℕ) → at ≡ At x.place → IsInnermost x.place → IsGood old → before ≡ changes_length (changes_of old.entries) → (IsReachedBy (changes_of old.entries) x → IsReachedAt (change_in (get spot_cmp old (At x.place))) x)
-    → IsPutAt x at old.entries new.entries before after → IsTakenIn old new x before after
-cell_taken old new x at before after is narrow good long own put =
-    let own_put : IsPutAt x (At x.place) old.entries new.entries before after = subst (λ (s : Spot). IsPutAt x s old.entries new.entries before after) is put in
-    let t = own_taken old.entries new.entries x own_put.0 own_put.1 before after good.sorted good.filed good.apart narrow
-    (λ r. subst (λ (o : Option Held). IsReachedAt o x) (change_found old (At x.place) own_put.0 own_put.2) (own r)) own_put.2 own_put.3 long own_put.4 in
+own_reached : (old : SlotTree) (x : Held) (v : Option Arrived) → (IsReachedBy (changes_of (helds_in old.entries)) x → IsReachedAt (change_in (slot_at (helds_of old) (At x.place))) x) → lookup (is_at (spot_cmp (At x.place))) (helds_in old.entries) ≡ Some (held_in v) → IsReachedBy (changes_of (helds_in old.entries)) x → IsReachedAt (held_in v) x
+own_reached old x v own found r = subst (λ (o : Option Held). IsReachedAt o x) (change_found (helds_of old) (At x.place) (held_in v) found) (own r)
+
+pub cell_taken : (time : ℕ) (old new : SlotTree) (x : Held) (at : Spot) (before after : ℕ) → at ≡ At x.place → IsInnermost x.place → IsGood (helds_of old) → before ≡ changes_length (changes_of (helds_in old.entries)) → (IsReachedBy (changes_of (helds_in old.entries)) x → IsReachedAt (change_in (slot_at (helds_of old) (At x.place))) x)
+    → IsPutAt time x at old.entries new.entries before after → IsTakenIn (helds_of old) (helds_of new) x before after
+cell_taken time old new x at before after is narrow good long own put =
+    let own_put : IsPutAt time x (At x.place) old.entries new.entries before after = subst (λ (s : Spot). IsPutAt time x s old.entries new.entries before after) is put in
+    let found = helds-found (is_at (spot_cmp (At x.place))) old.entries own_put.was own_put.found in
+    let t = own_taken (helds_in old.entries) (helds_in new.entries) x (held_in own_put.was) (held_in own_put.left) before after good.sorted good.filed good.apart narrow
+    (own_reached old x own_put.was own found) found own_put.put long (ap helds_in own_put.entries ∙ helds-set_value (is_at (spot_cmp (At x.place))) old.entries own_put.left) in
     record {
       content = t.content;
       good = record { sorted = subst (IsStrictlySortedBy spot_cmp) (sym t.same) good.sorted; filed = t.filed; apart = t.content.apart };
@@ -145,3 +152,9 @@ cell_taken old new x at before after is narrow good long own put =
       long = t.long;
       most = t.most;
     }
+
+pub cell_comes : (time : ℕ) (old new : SlotTree) (x : Held) (at : Spot) (before after : ℕ) → at ≡ At x.place → (IsReachedBy (changes_of (helds_in old.entries)) x → IsReachedAt (change_in (slot_at (helds_of old) (At x.place))) x) → IsPutAt time x at old.entries new.entries before after → ComesAlone time x old.entries new.entries
+cell_comes time old new x at before after is own put =
+    let own_put : IsPutAt time x (At x.place) old.entries new.entries before after = subst (λ (s : Spot). IsPutAt time x s old.entries new.entries before after) is put in
+    let found = helds-found (is_at (spot_cmp (At x.place))) old.entries own_put.was own_put.found in
+    comes_own time x (is_at (spot_cmp (At x.place))) old.entries new.entries own_put.was own_put.left own_put.found (own_reached old x own_put.was own found) own_put.comes own_put.entries

@@ -4,7 +4,7 @@ use Rattle.std.specs.Option.{option_to_list}
 use Rattle.std.specs.List.{sum_by}
 use Rattle.std.specs.List.Sorted.{IsStrictlySortedBy}
 use Rattle.std.specs.Map.{lookup, set_value}
-use Rattle.std.specs.BTreeMap.{get, keys, is_at}
+use Rattle.std.specs.BTreeMap.{is_at}
 use Rattle.std.proofs.lemmas.Bool.{cases_Bool}
 use Rattle.std.proofs.lemmas.Cmp.{eq_by_cmp_equiv}
 use Rattle.std.proofs.lemmas.List.Sums.{sum_by-cons}
@@ -20,7 +20,7 @@ use Rattle.partition_content.specs.declared.spots.Spot.{Spot}
 use Rattle.partition_content.specs.declared.spots.Spot.TheVariants.{At}
 use Rattle.partition_content.specs.Spots.{spot_cmp}
 use Rattle.partition_content.specs.SpotLaws.{spot_total}
-use Rattle.partition_content.specs.Slots.{SlotMap, changes_of, change_in, HasSlot}
+use Rattle.partition_content.specs.Slots.{SlotMap, changes_of, change_in, HasSlot, slot_at, spots_in}
 use Rattle.partition_content.proofs.SpotLemmas.{spot_found}
 use Rattle.partition_content.proofs.SlotLemmas.{sum_changes}
 
@@ -39,18 +39,18 @@ found_at p (e ∷ es) v h =
           contains_there {X = Spot × Option Held} e es (At p, v) (found_at p es v (sym (ap (λ (b : Bool). cond b (Some e.1) (lookup (is_at (spot_cmp (At p))) es)) f) ∙ h))
     ]
 
-pub held_found : (p : Place) (slots : SlotMap) (y : Held) → change_in (get spot_cmp slots (At p)) ≡ Some y → Contains slots.entries (At p, Some y)
-held_found p slots y h = by (get spot_cmp slots (At p)) refl h
+pub held_found : (p : Place) (slots : SlotMap) (y : Held) → change_in (slot_at slots (At p)) ≡ Some y → Contains slots.entries (At p, Some y)
+held_found p slots y h = by (slot_at slots (At p)) refl h
   where
-    by : (o : Option (Option Held)) → get spot_cmp slots (At p) ≡ o → change_in o ≡ Some y → Contains slots.entries (At p, Some y)
+    by : (o : Option (Option Held)) → slot_at slots (At p) ≡ o → change_in o ≡ Some y → Contains slots.entries (At p, Some y)
     by None e k = cc
     by (Some v) e k = found_at p slots.entries (Some y) (e ∙ ap (λ (w : Option Held). Some w) k)
 
-pub found_held : (p : Place) (slots : SlotMap) (y : Held) → IsStrictlySortedBy spot_cmp (keys slots) → Contains slots.entries (At p, Some y) → change_in (get spot_cmp slots (At p)) ≡ Some y
+pub found_held : (p : Place) (slots : SlotMap) (y : Held) → IsStrictlySortedBy spot_cmp (spots_in slots) → Contains slots.entries (At p, Some y) → change_in (slot_at slots (At p)) ≡ Some y
 found_held p slots y sorted h =
-    ap change_in (lookup-from_Contains (eq_by_cmp_equiv spot_total) (At p) (Some y) slots.entries (IsDistinct-from_sorted spot_cmp (keys slots) sorted) h)
+    ap change_in (lookup-from_Contains (eq_by_cmp_equiv spot_total) (At p) (Some y) slots.entries (IsDistinct-from_sorted spot_cmp (spots_in slots) sorted) h)
 
-pub slot_found : (p : Place) (slots : SlotMap) → HasSlot slots p → IsSome (get spot_cmp slots (At p))
+pub slot_found : (p : Place) (slots : SlotMap) → HasSlot slots p → IsSome (slot_at slots (At p))
 slot_found p slots h = IsSome-lookup_from_Contains (eq_by_cmp_equiv spot_total) (At p) slots.entries h
 
 -- ---- what may outrank a change

@@ -1,6 +1,5 @@
 -- What reaches a change is found at its place, at the deletion of its row, or before the rows.
 use Rattle.std.proofs.Common.{◌≡◌, ◌≢◌, ℕ, ◌⊎◌, ◌↔◌, inl, inr, Bool, true, false, List, [], ◌∷◌, Option, Some, None, IsTrue, Contains, refl, sym, ◌∙◌, ap, subst, not, is_some}
-use Rattle.std.specs.BTreeMap.{get, keys}
 use Rattle.std.specs.declared.cmp.Ordering.{Ordering}
 use Rattle.std.specs.declared.cmp.Ordering.TheVariants.{Less, Equal, Greater}
 use Rattle.std.proofs.lemmas.Bool.{both_ways}
@@ -17,7 +16,7 @@ use Rattle.partition_content.specs.Spots.{spot_cmp}
 use Rattle.cell_merge.specs.Parts.{IsInnermost}
 use Rattle.partition_content.specs.Keys.{span_for}
 use Rattle.partition_content.specs.Partition.{AreBare}
-use Rattle.partition_content.specs.Slots.{SlotMap, changes_of, change_in, AreFiled, IsReachedAt, IsOutrankedAt, IsOutrankedFrom, IsOutrankedUnder, IsGood, is_wide_spot}
+use Rattle.partition_content.specs.Slots.{SlotMap, changes_of, change_in, AreFiled, IsReachedAt, IsOutrankedAt, IsOutrankedFrom, IsOutrankedUnder, IsGood, is_wide_spot, slot_at, spots_in}
 use Rattle.std.specs.Ordering.{is_le}
 use Rattle.std.specs.BTreeMap.Range.{range_contains}
 use Rattle.partition_content.specs.Reading.{first_row, wide_of}
@@ -41,19 +40,19 @@ own_reaches es x y here same rank =
       | inr g ↦ inr (y, here, inl (same, g))
     ]
 
-pub reached_own : (slots : SlotMap) (x : Held) → IsGood slots → IsReachedAt (change_in (get spot_cmp slots (At x.place))) x → IsReachedBy (changes_of slots.entries) x
-reached_own slots x good h = by (change_in (get spot_cmp slots (At x.place))) refl h
+pub reached_own : (slots : SlotMap) (x : Held) → IsGood slots → IsReachedAt (change_in (slot_at slots (At x.place))) x → IsReachedBy (changes_of slots.entries) x
+reached_own slots x good h = by (change_in (slot_at slots (At x.place))) refl h
   where
-    by : (o : Option Held) → change_in (get spot_cmp slots (At x.place)) ≡ o → IsReachedAt o x → IsReachedBy (changes_of slots.entries) x
+    by : (o : Option Held) → change_in (slot_at slots (At x.place)) ≡ o → IsReachedAt o x → IsReachedBy (changes_of slots.entries) x
     by None e k = absurd k
     by (Some y) e k =
         let here = held_found x.place slots y e in
         own_reaches slots.entries x y (to_changes slots.entries (At x.place) y here) (sym (place_kept x.place y.place (good.filed (At x.place) y here))) k
 
-under_place : (p : Place) (slots : SlotMap) (x : Held) → IsOutrankedAt (change_in (get spot_cmp slots (At p))) x → (y : Held) × Contains slots.entries (At p, Some y) × Outranks y x
-under_place p slots x h = by (change_in (get spot_cmp slots (At p))) refl h
+under_place : (p : Place) (slots : SlotMap) (x : Held) → IsOutrankedAt (change_in (slot_at slots (At p))) x → (y : Held) × Contains slots.entries (At p, Some y) × Outranks y x
+under_place p slots x h = by (change_in (slot_at slots (At p))) refl h
   where
-    by : (o : Option Held) → change_in (get spot_cmp slots (At p)) ≡ o → IsOutrankedAt o x → (y : Held) × Contains slots.entries (At p, Some y) × Outranks y x
+    by : (o : Option Held) → change_in (slot_at slots (At p)) ≡ o → IsOutrankedAt o x → (y : Held) × Contains slots.entries (At p, Some y) × Outranks y x
     by None e k = absurd k
     by (Some y) e k = (y, held_found p slots y e, k)
 
@@ -72,14 +71,14 @@ reached_under bare slots x PartGone h = absurd h
 pub reached_wide : (slots : SlotMap) (x : Held) → IsOutrankedFrom slots.entries x → IsReachedBy (changes_of slots.entries) x
 reached_wide slots x (y, here, none, over) = inr (y, here, over)
 
-found_own : (slots : SlotMap) (x y : Held) → IsGood slots → Contains (changes_of slots.entries) y → y.place ≡ x.place → rank_cmp y x ≢ Less → IsReachedAt (change_in (get spot_cmp slots (At x.place))) x
+found_own : (slots : SlotMap) (x y : Held) → IsGood slots → Contains (changes_of slots.entries) y → y.place ≡ x.place → rank_cmp y x ≢ Less → IsReachedAt (change_in (slot_at slots (At x.place))) x
 found_own slots x y good here same rank =
     let entry = subst (λ (p : Place). Contains {X = Spot × Option Held} slots.entries (At p, Some y)) same (at_place slots.entries good.filed y here) in
     subst (λ (o : Option Held). IsReachedAt o x) (sym (found_held x.place slots y good.sorted entry)) rank
 
-row_span : (p : Place) (r : List ℕ) → row_of p ≡ Some r → (p ≡ RowGone r → ⊥) → (slots : SlotMap) (x : Held) → IsOutrankedAt (change_in (get spot_cmp slots (At (RowGone r)))) x → IsOutrankedUnder slots (span_for false p) x
-row_span (Cell a c) r e other slots x h = let same : r ≡ a = cc in subst (λ (v : List ℕ). IsOutrankedAt (change_in (get spot_cmp slots (At (RowGone v)))) x) same h
-row_span (Marker a) r e other slots x h = let same : r ≡ a = cc in subst (λ (v : List ℕ). IsOutrankedAt (change_in (get spot_cmp slots (At (RowGone v)))) x) same h
+row_span : (p : Place) (r : List ℕ) → row_of p ≡ Some r → (p ≡ RowGone r → ⊥) → (slots : SlotMap) (x : Held) → IsOutrankedAt (change_in (slot_at slots (At (RowGone r)))) x → IsOutrankedUnder slots (span_for false p) x
+row_span (Cell a c) r e other slots x h = let same : r ≡ a = cc in subst (λ (v : List ℕ). IsOutrankedAt (change_in (slot_at slots (At (RowGone v)))) x) same h
+row_span (Marker a) r e other slots x h = let same : r ≡ a = cc in subst (λ (v : List ℕ). IsOutrankedAt (change_in (slot_at slots (At (RowGone v)))) x) same h
 row_span (RowGone a) r e other slots x h = let same : a ≡ r = cc in absurd (other (ap (λ (v : List ℕ). RowGone v) same))
 row_span (RangeGone f u) r e other slots x h = cc
 row_span PartGone r e other slots x h = cc
@@ -90,7 +89,7 @@ equal_not_less x h = let e = sym (tied_itself rank_total x) ∙ h in cc
 greater_not_less : (o : Ordering) → o ≡ Greater → o ≢ Less
 greater_not_less o g l = let e = sym g ∙ l in cc
 
-pub reached_found : (slots : SlotMap) (x : Held) → IsGood slots → IsReachedBy (changes_of slots.entries) x → IsReachedAt (change_in (get spot_cmp slots (At x.place))) x ⊎ (IsOutrankedUnder slots (span_for false x.place) x ⊎ IsOutrankedFrom slots.entries x)
+pub reached_found : (slots : SlotMap) (x : Held) → IsGood slots → IsReachedBy (changes_of slots.entries) x → IsReachedAt (change_in (slot_at slots (At x.place))) x ⊎ (IsOutrankedUnder slots (span_for false x.place) x ⊎ IsOutrankedFrom slots.entries x)
 reached_found slots x good (inl here) = inl (found_own slots x x good here refl (equal_not_less x))
 reached_found slots x good (inr (y, here, over)) =
     elim (above y x over) [
@@ -116,7 +115,7 @@ innermost_alone (RangeGone f u) q n e = absurd n
 innermost_alone PartGone q n e = absurd n
 
 -- where no deletion of rows is there, a change is reached at its own place alone
-pub reached_bare : (slots : SlotMap) (x : Held) → IsGood slots → AreBare (changes_of slots.entries) → IsReachedBy (changes_of slots.entries) x → IsReachedAt (change_in (get spot_cmp slots (At x.place))) x
+pub reached_bare : (slots : SlotMap) (x : Held) → IsGood slots → AreBare (changes_of slots.entries) → IsReachedBy (changes_of slots.entries) x → IsReachedAt (change_in (slot_at slots (At x.place))) x
 reached_bare slots x good bare (inl here) = found_own slots x x good here refl (equal_not_less x)
 reached_bare slots x good bare (inr (y, here, over)) =
     elim (above y x over) [
@@ -125,7 +124,7 @@ reached_bare slots x good bare (inr (y, here, over)) =
     ]
 
 -- where no deletion of rows outranks it too
-pub reached_else : (slots : SlotMap) (x : Held) (b c : Bool) → IsGood slots → IsTrue b ↔ IsOutrankedUnder slots (span_for false x.place) x → b ≡ false → (c ≡ false → IsOutrankedFrom slots.entries x → ⊥) → c ≡ false → IsReachedBy (changes_of slots.entries) x → IsReachedAt (change_in (get spot_cmp slots (At x.place))) x
+pub reached_else : (slots : SlotMap) (x : Held) (b c : Bool) → IsGood slots → IsTrue b ↔ IsOutrankedUnder slots (span_for false x.place) x → b ≡ false → (c ≡ false → IsOutrankedFrom slots.entries x → ⊥) → c ≡ false → IsReachedBy (changes_of slots.entries) x → IsReachedAt (change_in (slot_at slots (At x.place))) x
 reached_else slots x b c good under neither missed none r =
     elim (reached_found slots x good r) [
       | inl h ↦ h
@@ -194,7 +193,7 @@ wide_place : (p : Place) → row_of p ≡ None → is_wide_spot (At p) ≡ true
 wide_place p e = ap (λ (o : Option (List ℕ)). not (is_some o)) e
 
 -- where no key is that of a deletion of a range or of the partition, none is there
-pub none_wide : (slots : SlotMap) (x : Held) → AreFiled slots.entries → ((s : Spot) → Contains (keys slots) s → is_wide_spot s ≡ false) → IsOutrankedFrom slots.entries x → ⊥
+pub none_wide : (slots : SlotMap) (x : Held) → AreFiled slots.entries → ((s : Spot) → Contains (spots_in slots) s → is_wide_spot s ≡ false) → IsOutrankedFrom slots.entries x → ⊥
 none_wide slots x filed none (y, here, wide, over) =
     let entry = at_place slots.entries filed y here in
     both_ways (is_wide_spot (At y.place)) (none (At y.place) (contains_map {X = Spot × Option Held} (λ e. e.0) slots.entries (At y.place, Some y) entry)) (wide_place y.place wide)

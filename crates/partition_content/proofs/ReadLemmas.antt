@@ -1,6 +1,8 @@
 -- Copies of what meets two bounds.
-use Rattle.std.proofs.Common.{◌≡◌, ◌≢◌, ℕ, ◌⊎◌, ◌↔◌, inl, inr, Bool, true, false, not, List, [], ◌∷◌, ◌++◌, Option, Some, None, Contains, refl, sym, ◌∙◌, ap, subst, arith, filter, ◌&&◌, cond, ◌==◌, IsTrue, eqb-true, eq-eqb}
-use Rattle.std.specs.Option.{option_to_list}
+use Rattle.std.proofs.Common.{Bor, ◌≡◌, ◌≢◌, ℕ, ◌⊎◌, ◌↔◌, inl, inr, Bool, true, false, not, List, [], ◌∷◌, ◌++◌, Option, Some, None, Contains, refl, sym, ◌∙◌, ap, subst, arith, filter, ◌&&◌, cond, ◌==◌, IsTrue, eqb-true, eq-eqb}
+use Rattle.std.specs.Option.{option_to_list, option_copied}
+use Rattle.std.specs.Prelude.{IfSome, IfNone}
+use Rattle.std.specs.BTreeMap.{get, is_at}
 use Rattle.std.specs.BTreeMap.Range.{range_contains}
 use Rattle.std.specs.Ordering.{is_le, is_lt, ordering_reverse}
 use Rattle.std.specs.declared.cmp.Ordering.{Ordering}
@@ -18,14 +20,19 @@ use Rattle.changes.specs.Order.{row_of, bound_signs, row_signs, signs_cmp, IsBet
 use Rattle.changes.specs.Queries.{MeetsBounds, IsSlice}
 use Rattle.changes.specs.Places.{AreInOrder}
 use Rattle.change_laws.proofs.Contents.{IsContent-itself, content_in_order_is_one}
-use Rattle.cs_base.proofs.Members.{contains_nil, contains_here, contains_cases}
+use Rattle.cs_base.proofs.Members.{contains_nil, contains_here, contains_cases, contains_map}
+use Rattle.partition_content.specs.declared.Arrived.{Arrived}
+use Rattle.partition_content.specs.Arrivals.{held_of, IsVacant}
 use Rattle.partition_content.specs.declared.spots.Spot.{Spot}
 use Rattle.partition_content.specs.declared.spots.Spot.TheVariants.{At, Edge}
 use Rattle.partition_content.specs.Spots.{spot_cmp}
 use Rattle.partition_content.specs.SpotLaws.{spot_total}
-use Rattle.partition_content.specs.Slots.{changes_of, AreFiled}
+use Rattle.partition_content.specs.Slots.{SlotTree, stored_of, stored_in, held_in, helds_in, helds_of, slot_at, change_in, changes_of, AreFiled, IsGood}
 use Rattle.partition_content.specs.Reading.{first_row, wide_of, rows_of}
-use Rattle.partition_content.proofs.SpotLemmas.{edge_stands, signs_total}
+use Rattle.partition_content.proofs.SpotLemmas.{edge_stands, signs_total, place_kept}
+use Rattle.partition_content.proofs.HeldLemmas.{change-at, stored_changes}
+use Rattle.partition_content.proofs.ArrivalLemmas.{stored_found}
+use Rattle.partition_content.proofs.PutLemmas.{held_found, found_held}
 use Rattle.partition_content.proofs.SlotLemmas.{from_changes, to_changes, at_place}
 use Rattle.partition_content.proofs.OrderLemmas.{from_filter, to_filter}
 use Rattle.partition_content.proofs.ReachLemmas.{before_rows}
@@ -187,3 +194,23 @@ empty_iff n m xs long four = (
 pub whole_of : (kept items changes : List Held) → items ≡ changes → AreInOrder changes → AreApart changes → IsContent kept (Contains items) → AreInOrder kept → kept ≡ changes
 whole_of kept items changes e ordered apart c sorted =
     content_in_order_is_one (Contains changes) kept changes (subst (λ (l : List Held). IsContent kept (Contains l)) e c) (IsContent-itself changes apart) sorted ordered
+
+-- ---- the look-up of a place
+
+stored_place : (p : Place) (tree : SlotTree) (a : Arrived) → AreFiled (helds_in tree.entries) → stored_in (get spot_cmp tree (At p)) ≡ Some a → a.held.place ≡ p
+stored_place p tree a filed is =
+    let change : change_in (slot_at (helds_of tree) (At p)) ≡ Some a.held = change-at (is_at (spot_cmp (At p))) tree.entries ∙ ap held_in is in
+    sym (place_kept p a.held.place (filed (At p) a.held (held_found p (helds_of tree) a.held change)))
+
+pub found_there : (p : Place) (tree : SlotTree) (found : Option (Bor Arrived)) → AreFiled (helds_in tree.entries) → option_copied found ≡ stored_in (get spot_cmp tree (At p)) → IfSome found (λ x. Contains (stored_of tree.entries) x.now × (x.now.held.place ≡ p))
+found_there p tree None filed e = tt
+found_there p tree (Some x) filed e = (stored_found (is_at (spot_cmp (At p))) tree.entries x.now (sym e), stored_place p tree x.now filed (sym e))
+
+pub found_none : (p : Place) (tree : SlotTree) (found : Option (Bor Arrived)) → IsGood (helds_of tree) → option_copied found ≡ stored_in (get spot_cmp tree (At p)) → IfNone found (IsVacant (stored_of tree.entries) p)
+found_none p tree (Some x) good e = tt
+found_none p tree None good e =
+    λ x here same.
+    let there : Contains (changes_of (helds_in tree.entries)) x.held = subst (λ (l : List Held). Contains l x.held) (stored_changes tree.entries) (contains_map held_of (stored_of tree.entries) x here) in
+    let entry = subst (λ (q : Place). Contains {X = Spot × Option Held} (helds_in tree.entries) (At q, Some x.held)) same (at_place (helds_in tree.entries) good.filed x.held there) in
+    let change : change_in (slot_at (helds_of tree) (At p)) ≡ Some x.held = found_held p (helds_of tree) x.held good.sorted entry in
+    let none : change_in (slot_at (helds_of tree) (At p)) ≡ None = change-at (is_at (spot_cmp (At p))) tree.entries ∙ ap held_in (sym e) in cc

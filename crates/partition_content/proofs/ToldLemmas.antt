@@ -1,6 +1,6 @@
 -- The length of a content is told before it is made: what comes of each change is seen at its place.
 use Rattle.std.proofs.Common.{◌≡◌, ℕ, ◌+◌, ◌≤◌, ◌<◌, inl, inr, Bool, cond, List, [], ◌∷◌, ◌++◌, length, take, drop, get_or, Option, Some, None, IsSome, Contains, refl, sym, ◌∙◌, ap, subst, arith}
-use Rattle.std.specs.BTreeMap.{get, keys, is_at}
+use Rattle.std.specs.BTreeMap.{is_at}
 use Rattle.std.specs.List.{sum_by}
 use Rattle.std.specs.Option.{option_to_list}
 use Rattle.std.specs.List.Sorted.{IsStrictlySortedBy}
@@ -24,7 +24,7 @@ use Rattle.cs_base.proofs.Members.{contains_nil, contains_here, contains_cases}
 use Rattle.partition_content.specs.declared.spots.Spot.{Spot}
 use Rattle.partition_content.specs.declared.spots.Spot.TheVariants.{At}
 use Rattle.partition_content.specs.Spots.{spot_cmp}
-use Rattle.partition_content.specs.Slots.{SlotMap, changes_of, change_in, AreFiled, HasSlot, IsPutIn, IsGood}
+use Rattle.partition_content.specs.Slots.{SlotMap, changes_of, change_in, AreFiled, HasSlot, IsPutIn, IsGood, slot_at, spots_in}
 use Rattle.partition_content.specs.Lengths.{IsMergedLength, IsLengthAt, IsLengthBeside}
 use Rattle.partition_content.proofs.SpotLemmas.{spot_found, place_kept}
 use Rattle.partition_content.proofs.PutLemmas.{slot_found}
@@ -39,7 +39,7 @@ pub record IsForetold (slots : SlotMap) (front : List Held) (length : ℕ) : Typ
   pub made : List (Spot × Option Held)
   pub content : IsContent (changes_of made) (Either (Contains (changes_of slots.entries)) (Contains front))
   pub filed : AreFiled made
-  pub same : keys_of made ≡ keys slots
+  pub same : keys_of made ≡ spots_in slots
   pub others : (p : Place) → ((y : Held) → Contains front y → y.place ≡ p → ⊥) → lookup (is_at (spot_cmp (At p))) made ≡ lookup (is_at (spot_cmp (At p))) slots.entries
   pub long : length ≡ changes_length (changes_of made)
 
@@ -81,8 +81,8 @@ some_slot None h = cc
 some_slot (Some v) h = refl
 
 -- what the look-up at a place gives that has memory
-slot_value : (slots : SlotMap) (p : Place) → HasSlot slots p → lookup (is_at (spot_cmp (At p))) slots.entries ≡ Some (change_in (get spot_cmp slots (At p)))
-slot_value slots p h = some_slot (get spot_cmp slots (At p)) (slot_found p slots h)
+slot_value : (slots : SlotMap) (p : Place) → HasSlot slots p → lookup (is_at (spot_cmp (At p))) slots.entries ≡ Some (change_in (slot_at slots (At p)))
+slot_value slots p h = some_slot (slot_at slots (At p)) (slot_found p slots h)
 
 -- what reaches x among both is there already
 reached_back : (kept held front : List Held) (x : Held) → IsContent kept (Either (Contains held) (Contains front)) → (Contains front x → ⊥) → ((y : Held) → Contains front y → Outranks y x → ⊥) → IsReachedBy kept x → IsReachedBy held x
@@ -107,9 +107,9 @@ told_step slots front more x before after good e narrow slot apart free f (inl (
   long = same ∙ f.long;
 }
 told_step slots front more x before after good e narrow slot apart free f (inr (own, len)) =
-    let put = put_of x (change_in (get spot_cmp slots (At x.place))) before after len in
-    let found : lookup (is_at (spot_cmp (At x.place))) f.made ≡ Some (change_in (get spot_cmp slots (At x.place))) = f.others x.place apart ∙ slot_value slots x.place slot in
-    let t = own_taken f.made (set_value (is_at (spot_cmp (At x.place))) f.made put.0) x (change_in (get spot_cmp slots (At x.place))) put.0 before after (subst (IsStrictlySortedBy spot_cmp) (sym f.same) good.sorted) f.filed f.content.apart narrow
+    let put = put_of x (change_in (slot_at slots (At x.place))) before after len in
+    let found : lookup (is_at (spot_cmp (At x.place))) f.made ≡ Some (change_in (slot_at slots (At x.place))) = f.others x.place apart ∙ slot_value slots x.place slot in
+    let t = own_taken f.made (set_value (is_at (spot_cmp (At x.place))) f.made put.0) x (change_in (slot_at slots (At x.place))) put.0 before after (subst (IsStrictlySortedBy spot_cmp) (sym f.same) good.sorted) f.filed f.content.apart narrow
     (λ r. own (reached_back (changes_of f.made) (changes_of slots.entries) front x f.content (λ h. apart x h refl) free r)) found put.1 f.long refl in
     record {
       made = set_value (is_at (spot_cmp (At x.place))) f.made put.0;
@@ -130,12 +130,12 @@ at_most x (Some y) a b (inr (less, e)) = omega (arith, e)
 
 pub beside_most : (slots : SlotMap) (x : Held) (a b : ℕ) → IsLengthBeside slots x a b → b ≤ a + held_length x
 beside_most slots x a b (inl (reached, e)) = omega (arith, e)
-beside_most slots x a b (inr (own, len)) = at_most x (change_in (get spot_cmp slots (At x.place))) a b len
+beside_most slots x a b (inr (own, len)) = at_most x (change_in (slot_at slots (At x.place))) a b len
 
 -- the change that x may replace is part of what is there
-pub told_there : (slots : SlotMap) (front : List Held) (x : Held) (n : ℕ) → HasSlot slots x.place → ((y : Held) → Contains front y → y.place ≡ x.place → ⊥) → IsForetold slots front n → sum_by held_length (option_to_list (change_in (get spot_cmp slots (At x.place)))) ≤ n
+pub told_there : (slots : SlotMap) (front : List Held) (x : Held) (n : ℕ) → HasSlot slots x.place → ((y : Held) → Contains front y → y.place ≡ x.place → ⊥) → IsForetold slots front n → sum_by held_length (option_to_list (change_in (slot_at slots (At x.place)))) ≤ n
 told_there slots front x n slot apart f =
-    let most = slot_most (is_at (spot_cmp (At x.place))) f.made (change_in (get spot_cmp slots (At x.place))) (f.others x.place apart ∙ slot_value slots x.place slot) in
+    let most = slot_most (is_at (spot_cmp (At x.place))) f.made (change_in (slot_at slots (At x.place))) (f.others x.place apart ∙ slot_value slots x.place slot) in
     let long = f.long in omega (arith, most, long)
 
 -- ---- changes in order

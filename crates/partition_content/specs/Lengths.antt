@@ -2,7 +2,6 @@
 use Rattle.std.specs.Prelude.{◌≡◌, ◌≢◌, ℕ, ◌⊎◌, ◌+◌, ◌≤◌, List, [], ◌∷◌, Option, Some, None, Contains}
 use Rattle.std.specs.List.{sum_by}
 use Rattle.cell_merge.specs.Parts.{IsOutrankedBy}
-use Rattle.std.specs.BTreeMap.{get}
 use Rattle.std.specs.declared.cmp.Ordering.TheVariants.{Less}
 use Rattle.changes.specs.declared.Held.{Held}
 use Rattle.changes.specs.Contents.{IsMergeOf, IsReachedBy}
@@ -10,8 +9,7 @@ use Rattle.changes.specs.Lengths.{held_length, changes_length}
 use Rattle.changes.specs.Order.{rank_cmp}
 use Rattle.changes.specs.Places.{AreInOrder}
 use Rattle.partition_content.specs.declared.spots.Spot.TheVariants.{At}
-use Rattle.partition_content.specs.Spots.{spot_cmp}
-use Rattle.partition_content.specs.Slots.{SlotMap, changes_of, change_in, IsReachedAt}
+use Rattle.partition_content.specs.Slots.{SlotMap, changes_of, change_in, IsReachedAt, slot_at}
 
 -- the content of both, in order, has this length
 abbrev pub IsMergedLength : List Held → List Held → ℕ → Type 0
@@ -26,7 +24,7 @@ IsLengthAt x (Some y) before after = ((rank_cmp y x ≢ Less) × (after ≡ befo
 abbrev pub IsLengthBeside : SlotMap → Held → ℕ → ℕ → Type 0
 IsLengthBeside slots x before after =
     (IsReachedBy (changes_of slots.entries) x × (after ≡ before))
-    ⊎ ((IsReachedBy (changes_of slots.entries) x → IsReachedAt (change_in (get spot_cmp slots (At x.place))) x) × IsLengthAt x (change_in (get spot_cmp slots (At x.place))) before after)
+    ⊎ ((IsReachedBy (changes_of slots.entries) x → IsReachedAt (change_in (slot_at slots (At x.place))) x) × IsLengthAt x (change_in (slot_at slots (At x.place))) before after)
 
 -- a change in a slot that none of the changes outranks counts
 abbrev pub IsKeptWith : List Held → Option Held → ℕ → ℕ → Type 0

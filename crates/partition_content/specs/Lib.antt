@@ -1,5 +1,6 @@
 pub mod Spots
 pub mod SpotLaws
+pub mod Arrivals
 pub mod Slots
 pub mod Keys
 pub mod Partition

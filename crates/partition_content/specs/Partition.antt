@@ -1,23 +1,27 @@
 -- What a node keeps of a partition.
 use Rattle.std.specs.Prelude.{◌≡◌, ℕ, ◌+◌, ◌<◌, ◌≤◌, ◌^◌, Bool, true, false, List, map, Option, Some, None, Contains}
-use Rattle.std.specs.BTreeMap.{keys}
 use Rattle.cell_merge.specs.Parts.{IsInnermost}
 use Rattle.changes.specs.declared.Held.{Held}
 use Rattle.changes.specs.declared.Place.{Place}
 use Rattle.changes.specs.declared.Place.TheVariants.{Cell, Marker, RowGone, RangeGone, PartGone}
 use Rattle.changes.specs.Contents.{Either, IsContent}
 use Rattle.changes.specs.Lengths.{changes_length, held_length}
+use Rattle.partition_content.specs.declared.Arrived.{Arrived}
 use Rattle.partition_content.specs.declared.keys.Keys.{Keys}
 use Rattle.partition_content.specs.declared.memory.Ready.{Ready}
 use Rattle.partition_content.specs.declared.spots.Spot.{Spot}
 use Rattle.partition_content.specs.declared.spots.Spot.TheVariants.{At, Edge}
-use Rattle.partition_content.specs.Slots.{SlotMap, changes_of, HasSlot, IsGood}
+use Rattle.partition_content.specs.Slots.{SlotMap, changes_of, HasSlot, IsGood, spots_in}
+use Rattle.partition_content.specs.Arrivals.{held_of}
 use Rattle.partition_content.specs.Keys.{keys_for}
 
--- the changes, and the places of those for which memory is taken
+-- the changes with their arrivals, and the places of those for which memory is taken
 pub record Partition : Type 0 where
-  pub changes : List Held
+  pub stored : List Arrived
   pub ready : Option (List Place)
+
+abbrev pub changes_in : Partition → List Held
+changes_in partition = map held_of partition.stored
 
 abbrev pub place_of : Held → Place
 place_of x = x.place
@@ -25,7 +29,7 @@ place_of x = x.place
 -- memory is taken for these changes, and the length with them can be told
 pub record IsReadyFor (partition : Partition) (incoming : List Held) : Type 0 where
   pub places : partition.ready ≡ Some (map place_of incoming)
-  pub fits : changes_length partition.changes + changes_length incoming < 2 ^ 64
+  pub fits : changes_length (changes_in partition) + changes_length incoming < 2 ^ 64
 
 -- there is a change or memory at the place of each of these
 abbrev pub AreSlotsFor : SlotMap → List Held → Type 0
@@ -80,6 +84,6 @@ pub record IsKept (slots : SlotMap) (ready : Option Ready) (length : ℕ) (plain
 pub record IsTakenIn (old new : SlotMap) (x : Held) (before after : ℕ) : Type 0 where
   pub content : IsContent (changes_of new.entries) (Either (Contains (changes_of old.entries)) (λ y. x ≡ y))
   pub good : IsGood new
-  pub same : keys new ≡ keys old
+  pub same : spots_in new ≡ spots_in old
   pub long : after ≡ changes_length (changes_of new.entries)
   pub most : after ≤ before + held_length x

@@ -1,24 +1,58 @@
--- The map that keeps the changes of a partition: at a key a change, or memory for one.
-use Rattle.std.specs.Prelude.{◌≡◌, ◌≢◌, ℕ, ◌⊎◌, ◌+◌, List, [], ◌∷◌, Option, Some, None, Contains, flat_map, Bool, true, false, not, is_some}
+-- The tree that keeps the changes of a partition: at a key a change with its arrival, or memory for one.
+use Rattle.std.specs.Prelude.{◌≡◌, ◌≢◌, ℕ, ◌⊎◌, ◌+◌, List, [], ◌∷◌, Option, Some, None, Contains, map, flat_map, Bool, true, false, not, is_some}
 use Rattle.std.specs.Option.{option_to_list}
-use Rattle.std.specs.BTreeMap.{BTreeMap, get, keys, is_at}
-use Rattle.std.specs.Map.{lookup, set_value}
+use Rattle.std.specs.BTreeMap.{BTreeMap, is_at}
+use Rattle.std.specs.Map.{keys_of, lookup, set_value}
 use Rattle.changes.specs.declared.Held.{Held}
 use Rattle.changes.specs.declared.Place.{Place}
 use Rattle.changes.specs.declared.Place.TheVariants.{RowGone}
 use Rattle.std.specs.List.Sorted.{IsStrictlySortedBy}
 use Rattle.std.specs.declared.cmp.Ordering.TheVariants.{Less}
-use Rattle.changes.specs.Contents.{AreApart}
+use Rattle.changes.specs.Contents.{AreApart, IsReachedBy}
 use Rattle.changes.specs.Order.{Outranks, rank_cmp, row_of}
 use Rattle.changes.specs.Lengths.{held_length}
 use Rattle.partition_content.specs.Spots.{spot_cmp}
+use Rattle.partition_content.specs.declared.Arrived.{Arrived}
 use Rattle.partition_content.specs.declared.keys.Span.{Span}
 use Rattle.partition_content.specs.declared.keys.Span.TheVariants.{Alone, Under, Row, Rows, All}
 use Rattle.partition_content.specs.declared.spots.Spot.{Spot}
 use Rattle.partition_content.specs.declared.spots.Spot.TheVariants.{At, Edge}
 
-abbrev pub SlotMap : Type 0
-SlotMap = BTreeMap Spot (Option Held)
+abbrev pub SlotTree : Type 0
+SlotTree = BTreeMap Spot (Option Arrived)
+
+-- all that is stored, in the order of the keys
+abbrev pub stored_of : List (Spot × Option Arrived) → List Arrived
+stored_of es = flat_map (λ e. option_to_list e.1) es
+
+-- what a look-up gives, where memory alone counts as nothing
+abbrev pub stored_in : Option (Option Arrived) → Option Arrived
+stored_in None = None
+stored_in (Some slot) = slot
+
+-- ---- the tree without the arrivals
+
+pub record SlotMap : Type 0 where
+  pub entries : List (Spot × Option Held)
+
+abbrev pub held_in : Option Arrived → Option Held
+held_in None = None
+held_in (Some x) = Some x.held
+
+abbrev pub held_entry : Spot × Option Arrived → Spot × Option Held
+held_entry e = (e.0, held_in e.1)
+
+abbrev pub helds_in : List (Spot × Option Arrived) → List (Spot × Option Held)
+helds_in es = map held_entry es
+
+abbrev pub helds_of : SlotTree → SlotMap
+helds_of tree = record { entries = helds_in tree.entries }
+
+abbrev pub spots_in : SlotMap → List Spot
+spots_in slots = keys_of slots.entries
+
+abbrev pub slot_at : SlotMap → Spot → Option (Option Held)
+slot_at slots spot = lookup (is_at (spot_cmp spot)) slots.entries
 
 -- the changes, in the order of the keys
 abbrev pub changes_of : List (Spot × Option Held) → List Held
@@ -35,7 +69,7 @@ AreFiled es = (spot : Spot) (x : Held) → Contains es (spot, Some x) → spot �
 
 -- there is a change or memory at the place
 abbrev pub HasSlot : SlotMap → Place → Type 0
-HasSlot slots place = Contains (keys slots) (At place)
+HasSlot slots place = Contains (spots_in slots) (At place)
 
 abbrev pub IsCleared : Held → Option Held → Option Held → Type 0
 IsCleared x None new = new ≡ None
@@ -69,14 +103,14 @@ IsOutrankedFrom es x = (y : Held) × Contains (changes_of es) y × (row_of y.pla
 
 -- the keys are in order, each change has the place of its key, and none outranks another
 pub record IsGood (slots : SlotMap) : Type 0 where
-  pub sorted : IsStrictlySortedBy spot_cmp (keys slots)
+  pub sorted : IsStrictlySortedBy spot_cmp (spots_in slots)
   pub filed : AreFiled slots.entries
   pub apart : AreApart (changes_of slots.entries)
 
 -- the deletion of its row outranks x
 abbrev pub IsOutrankedUnder : SlotMap → Span → Held → Type 0
 IsOutrankedUnder slots Alone x = ⊥
-IsOutrankedUnder slots (Under row) x = IsOutrankedAt (change_in (get spot_cmp slots row)) x
+IsOutrankedUnder slots (Under row) x = IsOutrankedAt (change_in (slot_at slots row)) x
 IsOutrankedUnder slots (Row last) x = ⊥
 IsOutrankedUnder slots (Rows from upto) x = ⊥
 IsOutrankedUnder slots All x = ⊥
@@ -91,9 +125,27 @@ IsPutIn x None new before after = (new ≡ Some x) × (after ≡ before + held_l
 IsPutIn x (Some y) new before after =
     ((rank_cmp y x ≢ Less) × (new ≡ Some y) × (after ≡ before)) ⊎ ((rank_cmp y x ≡ Less) × (new ≡ Some x) × (after + held_length y ≡ before + held_length x))
 
--- the same at a key
-abbrev pub IsPutAt : Held → Spot → List (Spot × Option Held) → List (Spot × Option Held) → ℕ → ℕ → Type 0
-IsPutAt x at es fs before after = (v : Option Held) × (w : Option Held) × (lookup (is_at (spot_cmp at)) es ≡ Some v) × IsPutIn x v w before after × (fs ≡ set_value (is_at (spot_cmp at)) es w)
+-- the slot stays, or x comes to it at this time, where the change there neither is it nor beats it
+abbrev pub ComesIn : ℕ → Held → Option Arrived → Option Arrived → Type 0
+ComesIn time x old new = (new ≡ old) ⊎ ((IsReachedAt (held_in old) x → ⊥) × (new ≡ Some (record { held = x; arrival = time })))
+
+-- both at a key
+pub record IsPutAt (time : ℕ) (x : Held) (at : Spot) (old new : List (Spot × Option Arrived)) (before after : ℕ) : Type 0 where
+  pub was : Option Arrived
+  pub left : Option Arrived
+  pub found : lookup (is_at (spot_cmp at)) old ≡ Some was
+  pub put : IsPutIn x (held_in was) (held_in left) before after
+  pub comes : ComesIn time x was left
+  pub entries : new ≡ set_value (is_at (spot_cmp at)) old left
+
+-- nothing else comes than x, at this time, and only where no change that is there reaches it
+abbrev pub ComesAlone : ℕ → Held → List (Spot × Option Arrived) → List (Spot × Option Arrived) → Type 0
+ComesAlone time x old new =
+    (a : Arrived) → Contains (stored_of new) a → Contains (stored_of old) a ⊎ ((IsReachedBy (changes_of (helds_in old)) x → ⊥) × (a ≡ record { held = x; arrival = time }))
+
+-- all that is stored now was there
+abbrev pub AreLeft : List (Spot × Option Arrived) → List (Spot × Option Arrived) → Type 0
+AreLeft old new = (a : Arrived) → Contains (stored_of new) a → Contains (stored_of old) a
 
 -- the key of a place in no single row
 abbrev pub is_wide_spot : Spot → Bool

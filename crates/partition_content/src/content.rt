@@ -1,18 +1,21 @@
 //! What a node keeps of a partition.
 
-ghost use Rattle.std.specs.Prelude.{◌≡◌, ◌↔◌, [], None, IsTrue, IfOk, OnOk, OnErr};
+ghost use Rattle.std.specs.Prelude.{◌≡◌, ◌↔◌, [], None, Contains, IsTrue, IfOk, OnOk, OnErr, IfSome, IfNone};
 ghost use Rattle.cell_merge.specs.Settled.{IsSettled};
 ghost use Rattle.changes.specs.Contents.{IsMergeOf};
 ghost use Rattle.changes.specs.Lengths.{changes_length};
 ghost use Rattle.changes.specs.Queries.{IsSlice};
 
+use crate::Arrived;
 use crate::lengths::length_with;
 use crate::memory::{Ready, give_back, give_back_unused, stays_bare, take_memory};
-use crate::reading::{copy_all, copy_slice};
-use crate::slots::Slots;
+use crate::reading::{copy_all, copy_slice, copy_stored};
+use crate::slots::{Slots, stored_at};
+use crate::spots::Spot;
 use crate::taking::put_all;
 use cell_merge::Content;
-use changes::{Bound, encoded_length};
+use changes::{Bound, Place, encoded_length};
+use cs_base::Micros;
 use std::alloc::{AllocError, Global};
 use std::collections::BTreeMap;
 use std::marker::Model;
@@ -31,22 +34,23 @@ pub struct PartitionContent {
 
 impl Model for PartitionContent {
     ghost use Rattle.partition_content.specs.Partition.{Partition, places_in, IsKept};
-    ghost use Rattle.partition_content.specs.Slots.{changes_of};
+    ghost use Rattle.partition_content.specs.Slots.{stored_of, helds_of};
 
     ghost Value = { Partition };
 
-    ghost view = { λ a. record { changes = changes_of a.slots.entries; ready = places_in a.ready } };
+    ghost view = { λ a. record { stored = stored_of a.slots.entries; ready = places_in a.ready } };
 
-    ghost invariant = { λ a. IsKept a.slots a.ready a.length a.bare };
+    ghost invariant = { λ a. IsKept (helds_of a.slots) a.ready a.length a.bare };
 }
 
 impl PartitionContent {
     ghost use Rattle.partition_content.specs.Lengths.{IsMergedLength};
-    ghost use Rattle.partition_content.specs.Partition.{IsReadyFor};
+    ghost use Rattle.partition_content.specs.Arrivals.{ComeAt, IsVacant};
+    ghost use Rattle.partition_content.specs.Partition.{changes_in, IsReadyFor};
 
     /// No changes, without an allocation. Further memory comes from this allocator.
     pub fn new(alloc: Global) -> PartitionContent
-        ensures changes { result.changes ≡ [] }
+        ensures stored { result.stored ≡ [] }
         ensures ready { result.ready ≡ None }
     {
         PartitionContent {
@@ -60,7 +64,7 @@ impl PartitionContent {
 
     /// Gives back the memory that was taken for changes that did not come.
     fn release(&mut self)
-        ensures changes { self.new.changes ≡ self.old.changes }
+        ensures stored { self.new.stored ≡ self.old.stored }
         ensures ready { self.new.ready ≡ None }
     {
         if let Some(ready) = self.ready.take() {
@@ -71,7 +75,7 @@ impl PartitionContent {
     /// Takes all the memory that `apply` needs for these changes, so that it can't fail. The changes stay as they are. Memory
     /// that was taken before for others is given back. It is an error too where the length would not be below 2^64.
     pub fn reserve(&mut self, incoming: &Content) -> Result<(), AllocError>
-        ensures changes { self.new.changes ≡ self.old.changes }
+        ensures stored { self.new.stored ≡ self.old.stored }
         ensures ready { OnOk result (IsReadyFor self.new incoming.now) }
         ensures err { OnErr result (self.new.ready ≡ None) }
     {
@@ -86,10 +90,12 @@ impl PartitionContent {
         Ok(())
     }
 
-    /// Puts in changes for which there is memory: the content is then that of both. It takes no memory, and moves the changes.
-    pub fn apply(&mut self, incoming: Content)
+    /// Puts in changes for which there is memory, at a node time: the content is then that of both. What was there keeps its
+    /// arrival, also where it comes again, and what was not comes at this time. It takes no memory, and moves the changes.
+    pub fn apply(&mut self, incoming: Content, at: Micros)
         requires { IsReadyFor self.old incoming }
-        ensures content { IsMergeOf self.new.changes self.old.changes incoming }
+        ensures content { IsMergeOf (changes_in self.new) (changes_in self.old) incoming }
+        ensures arrivals { ComeAt at self.old.stored self.new.stored }
         ensures ready { self.new.ready ≡ None }
     {
         if let Some(ready) = self.ready.take() {
@@ -100,6 +106,7 @@ impl PartitionContent {
                 ready.bare,
                 &ready.keys,
                 incoming.into_changes(),
+                at,
             );
             self.bare = ready.bare;
             give_back_unused(&mut self.slots, &ready);
@@ -110,7 +117,7 @@ impl PartitionContent {
     /// and markers cost the logarithm of the changes held; with a deletion of rows each change held is looked at.
     pub fn length_with(&self, incoming: &Content) -> u64
         requires { IsReadyFor self.now incoming.now }
-        ensures { IsMergedLength self.now.changes incoming.now result }
+        ensures { IsMergedLength (changes_in self.now) incoming.now result }
     {
         match &self.ready {
             Some(ready) => length_with(
@@ -129,7 +136,7 @@ impl PartitionContent {
     /// bounds, in memory of their own. It costs the logarithm of the changes held, the changes given, and the number of
     /// deletions of ranges.
     pub fn slice(&self, alloc: Global, from: &Bound, upto: &Bound) -> Result<Content, AllocError>
-        ensures { IfOk result (λ part. IsSlice from.now upto.now self.now.changes part) }
+        ensures { IfOk result (λ part. IsSlice from.now upto.now (changes_in self.now) part) }
     {
         let changes = copy_slice(alloc, &self.slots, from, upto)?;
         let part = Content::from_changes(alloc, changes)?;
@@ -138,7 +145,7 @@ impl PartitionContent {
 
     /// All changes, in memory of their own.
     pub fn whole(&self, alloc: Global) -> Result<Content, AllocError>
-        ensures { IfOk result (λ content. content ≡ self.now.changes) }
+        ensures { IfOk result (λ content. content ≡ changes_in self.now) }
     {
         let changes = copy_all(alloc, &self.slots)?;
         let content = Content::from_changes(alloc, changes)?;
@@ -146,17 +153,32 @@ impl PartitionContent {
         Ok(content)
     }
 
+    /// All changes with their arrivals, in the order of their places, in memory of their own.
+    pub fn stored(&self, alloc: Global) -> Result<Vec<Arrived>, AllocError>
+        ensures { IfOk result (λ all. all.items ≡ self.now.stored) }
+    {
+        copy_stored(alloc, &self.slots)
+    }
+
+    /// The change at a place, with its arrival. Keys are places that are owned, so a caller who has but a reference copies it.
+    pub fn get(&self, place: Place) -> Option<&Arrived>
+        ensures there { IfSome result (λ x. Contains self.now.stored x.now × (x.now.held.place ≡ place)) }
+        ensures none { IfNone result (IsVacant self.now.stored place) }
+    {
+        stored_at(&self.slots, &Spot::At(place))
+    }
+
     /// Whether there are no changes.
     pub fn is_empty(&self) -> bool
-        ensures { IsTrue result ↔ (self.now.changes ≡ []) }
+        ensures { IsTrue result ↔ (changes_in self.now ≡ []) }
     {
         self.length == encoded_length(&[])
     }
 
     /// The length of the changes as they are stored.
     pub fn encoded_length(&self) -> u64
-        ensures length { result ≡ changes_length self.now.changes }
-        ensures settled { IsSettled self.now.changes }
+        ensures length { result ≡ changes_length (changes_in self.now) }
+        ensures settled { IsSettled (changes_in self.now) }
     {
         self.length
     }

@@ -1,7 +1,6 @@
 //! The length that the changes have with others, told before these are put in.
 
 ghost use Rattle.std.specs.Prelude.{◌≡◌, ◌↔◌, ◌+◌, ◌<◌, ◌≤◌, ◌^◌, true, Some, IsTrue, map};
-ghost use Rattle.std.specs.BTreeMap.{get};
 ghost use Rattle.std.specs.List.{sum_by};
 ghost use Rattle.std.specs.Option.{option_to_list};
 ghost use Rattle.cell_merge.specs.Parts.{IsOutrankedBy};
@@ -10,11 +9,12 @@ ghost use Rattle.changes.specs.Lengths.{held_length, changes_length};
 ghost use Rattle.changes.specs.Places.{AreInOrder};
 ghost use Rattle.partition_content.specs.declared.spots.Spot.TheVariants.{At};
 ghost use Rattle.partition_content.specs.Spots.{spot_cmp};
-ghost use Rattle.partition_content.specs.Slots.{changes_of, change_in, IsGood};
+ghost use Rattle.partition_content.specs.Slots.{held_in, helds_in, helds_of, slot_at, changes_of, change_in, IsGood};
 ghost use Rattle.partition_content.specs.Keys.{keys_for};
 ghost use Rattle.partition_content.specs.Lengths.{IsGainedWith, IsKeptWith, IsLengthAt, IsLengthBeside, IsMergedLength, IsPartLength};
 ghost use Rattle.partition_content.specs.Partition.{place_of, AreSlotsFor, AreBare};
 
+use crate::Arrived;
 use crate::keys::Keys;
 use crate::memory::are_narrow;
 use crate::slots::{Slots, change_at, whole};
@@ -39,9 +39,9 @@ fn length_after(held: &Held, length: u64, x: &Held) -> u64
 
 /// The length with x at its key, unless it is there or a change that beats it.
 fn length_at(slots: &Slots, length: u64, at: &Spot, x: &Held) -> u64
-    requires there { sum_by held_length (option_to_list (change_in (get spot_cmp slots.now at.now))) ≤ length }
+    requires there { sum_by held_length (option_to_list (change_in (slot_at (helds_of slots.now) at.now))) ≤ length }
     requires fits { length + held_length x.now < 2 ^ 64 }
-    ensures { IsLengthAt x.now (change_in (get spot_cmp slots.now at.now)) length result }
+    ensures { IsLengthAt x.now (change_in (slot_at (helds_of slots.now) at.now)) length result }
 {
     match change_at(slots, at) {
         Some(held) => length_after(held, length, x),
@@ -52,11 +52,11 @@ fn length_at(slots: &Slots, length: u64, at: &Spot, x: &Held) -> u64
 /// The length with a cell or a marker, where nothing else comes to its place.
 fn length_beside(slots: &Slots, length: u64, alloc: Global, bare: bool, own: &Keys, x: &Held) -> u64
     requires keys { own.now ≡ keys_for bare x.now.place }
-    requires good { IsGood slots.now }
-    requires bare { bare ≡ true → AreBare (changes_of slots.now.entries) }
-    requires there { sum_by held_length (option_to_list (change_in (get spot_cmp slots.now (At x.now.place)))) ≤ length }
+    requires good { IsGood (helds_of slots.now) }
+    requires bare { bare ≡ true → AreBare (changes_of (helds_in slots.now.entries)) }
+    requires there { sum_by held_length (option_to_list (change_in (slot_at (helds_of slots.now) (At x.now.place)))) ≤ length }
     requires fits { length + held_length x.now < 2 ^ 64 }
-    ensures { IsLengthBeside slots.now x.now length result }
+    ensures { IsLengthBeside (helds_of slots.now) x.now length result }
 {
     if is_outranked_over(slots, alloc, bare, own, x) {
         return length;
@@ -74,15 +74,15 @@ fn length_with_cells(
     changes: &[Held],
 ) -> u64
     requires keys { keys.now ≡ map (keys_for bare) (map place_of changes.now) }
-    requires slots { AreSlotsFor slots.now changes.now }
-    requires good { IsGood slots.now }
-    requires length { length ≡ changes_length (changes_of slots.now.entries) }
+    requires slots { AreSlotsFor (helds_of slots.now) changes.now }
+    requires good { IsGood (helds_of slots.now) }
+    requires length { length ≡ changes_length (changes_of (helds_in slots.now.entries)) }
     requires fits { length + sum_by held_length changes.now < 2 ^ 64 }
-    requires bare { bare ≡ true → AreBare (changes_of slots.now.entries) }
+    requires bare { bare ≡ true → AreBare (changes_of (helds_in slots.now.entries)) }
     requires narrow { AreBare changes.now }
     requires ordered { AreInOrder changes.now }
     requires apart { AreApart changes.now }
-    ensures { IsMergedLength (changes_of slots.now.entries) changes.now result }
+    ensures { IsMergedLength (changes_of (helds_in slots.now.entries)) changes.now result }
 {
     let mut length = length;
     let mut at = 0;
@@ -106,24 +106,24 @@ fn is_outranked_by(changes: &[Held], x: &Held) -> bool
 }
 
 /// The length of the change in a slot, unless one of the changes outranks it, with that of others.
-fn kept_with(slot: &Option<Held>, changes: &[Held], others: u64) -> u64
-    requires { sum_by held_length (option_to_list slot.now) + others < 2 ^ 64 }
-    ensures { IsKeptWith changes.now slot.now others result }
+fn kept_with(slot: &Option<Arrived>, changes: &[Held], others: u64) -> u64
+    requires { sum_by held_length (option_to_list (held_in slot.now)) + others < 2 ^ 64 }
+    ensures { IsKeptWith changes.now (held_in slot.now) others result }
 {
-    let Some(held) = slot else {
+    let Some(there) = slot else {
         return others;
     };
-    if is_outranked_by(changes, held) {
+    if is_outranked_by(changes, &there.held) {
         return others;
     }
-    held.encoded_length() + others
+    there.held.encoded_length() + others
 }
 
 /// The length of the changes on a walk that none of the changes outranks.
-fn kept_length(walk: Range<'_, Spot, Option<Held>>, changes: &[Held]) -> u64
-    requires fits { sum_by held_length (changes_of walk) < 2 ^ 64 }
-    requires ordered { AreInOrder (changes_of walk) }
-    ensures { IsPartLength (IsOutrankedBy changes.now) (changes_of walk.entry) result }
+fn kept_length(walk: Range<'_, Spot, Option<Arrived>>, changes: &[Held]) -> u64
+    requires fits { sum_by held_length (changes_of (helds_in walk)) < 2 ^ 64 }
+    requires ordered { AreInOrder (changes_of (helds_in walk)) }
+    ensures { IsPartLength (IsOutrankedBy changes.now) (changes_of (helds_in walk.entry)) result }
 {
     let mut kept = 0;
     for (_, slot) in walk {
@@ -135,10 +135,10 @@ fn kept_length(walk: Range<'_, Spot, Option<Held>>, changes: &[Held]) -> u64
 /// The length of x, unless it is reached by a change that is there, with that of others.
 fn gained_with(slots: &Slots, alloc: Global, bare: bool, own: &Keys, x: &Held, others: u64) -> u64
     requires keys { own.now ≡ keys_for bare x.now.place }
-    requires good { IsGood slots.now }
-    requires bare { bare ≡ true → AreBare (changes_of slots.now.entries) }
+    requires good { IsGood (helds_of slots.now) }
+    requires bare { bare ≡ true → AreBare (changes_of (helds_in slots.now.entries)) }
     requires fits { held_length x.now + others < 2 ^ 64 }
-    ensures { IsGainedWith (changes_of slots.now.entries) x.now others result }
+    ensures { IsGainedWith (changes_of (helds_in slots.now.entries)) x.now others result }
 {
     if is_outranked_over(slots, alloc, bare, own, x) {
         return others;
@@ -152,11 +152,11 @@ fn gained_with(slots: &Slots, alloc: Global, bare: bool, own: &Keys, x: &Held, o
 /// The length of those of the changes that no change that is there reaches.
 fn gained_length(slots: &Slots, alloc: Global, bare: bool, keys: &[Keys], changes: &[Held]) -> u64
     requires keys { keys.now ≡ map (keys_for bare) (map place_of changes.now) }
-    requires good { IsGood slots.now }
-    requires bare { bare ≡ true → AreBare (changes_of slots.now.entries) }
+    requires good { IsGood (helds_of slots.now) }
+    requires bare { bare ≡ true → AreBare (changes_of (helds_in slots.now.entries)) }
     requires fits { sum_by held_length changes.now < 2 ^ 64 }
     requires ordered { AreInOrder changes.now }
-    ensures { IsPartLength (IsReachedBy (changes_of slots.now.entries)) changes.now result }
+    ensures { IsPartLength (IsReachedBy (changes_of (helds_in slots.now.entries))) changes.now result }
 {
     let mut gained = 0;
     let mut at = 0;
@@ -176,12 +176,12 @@ fn length_with_deletions(
     changes: &[Held],
 ) -> u64
     requires keys { keys.now ≡ map (keys_for bare) (map place_of changes.now) }
-    requires good { IsGood slots.now }
-    requires fits { changes_length (changes_of slots.now.entries) + sum_by held_length changes.now < 2 ^ 64 }
-    requires bare { bare ≡ true → AreBare (changes_of slots.now.entries) }
+    requires good { IsGood (helds_of slots.now) }
+    requires fits { changes_length (changes_of (helds_in slots.now.entries)) + sum_by held_length changes.now < 2 ^ 64 }
+    requires bare { bare ≡ true → AreBare (changes_of (helds_in slots.now.entries)) }
     requires ordered { AreInOrder changes.now }
     requires apart { AreApart changes.now }
-    ensures { IsMergedLength (changes_of slots.now.entries) changes.now result }
+    ensures { IsMergedLength (changes_of (helds_in slots.now.entries)) changes.now result }
 {
     let kept = kept_length(whole(slots), changes);
     let gained = gained_length(slots, alloc, bare, keys, changes);
@@ -198,14 +198,14 @@ pub(crate) fn length_with(
     changes: &[Held],
 ) -> u64
     requires keys { keys.now ≡ map (keys_for bare) (map place_of changes.now) }
-    requires slots { AreSlotsFor slots.now changes.now }
-    requires good { IsGood slots.now }
-    requires length { length ≡ changes_length (changes_of slots.now.entries) }
-    requires fits { changes_length (changes_of slots.now.entries) + changes_length changes.now < 2 ^ 64 }
-    requires bare { bare ≡ true → AreBare (changes_of slots.now.entries) }
+    requires slots { AreSlotsFor (helds_of slots.now) changes.now }
+    requires good { IsGood (helds_of slots.now) }
+    requires length { length ≡ changes_length (changes_of (helds_in slots.now.entries)) }
+    requires fits { changes_length (changes_of (helds_in slots.now.entries)) + changes_length changes.now < 2 ^ 64 }
+    requires bare { bare ≡ true → AreBare (changes_of (helds_in slots.now.entries)) }
     requires ordered { AreInOrder changes.now }
     requires apart { AreApart changes.now }
-    ensures { IsMergedLength (changes_of slots.now.entries) changes.now result }
+    ensures { IsMergedLength (changes_of (helds_in slots.now.entries)) changes.now result }
 {
     if are_narrow(changes) {
         return length_with_cells(slots, length, alloc, bare, keys, changes);

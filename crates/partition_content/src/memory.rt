@@ -2,7 +2,7 @@
 
 ghost use Rattle.std.specs.Prelude.{◌≡◌, ℕ, List, [], map, ◌&&◌, IfOk, OnOk, Contains};
 ghost use Rattle.changes.specs.declared.Place.{Place as place_value};
-ghost use Rattle.partition_content.specs.Slots.{changes_of, HasSlot, IsGood};
+ghost use Rattle.partition_content.specs.Slots.{stored_of, helds_of, HasSlot, IsGood};
 ghost use Rattle.partition_content.specs.Keys.{keys_for};
 ghost use Rattle.partition_content.specs.Partition.{place_of, AreSlotsFor, is_narrow as is_narrow_change};
 ghost use Rattle.std.specs.List.{list_all};
@@ -43,9 +43,9 @@ pub(crate) fn stays_bare(bare: bool, changes: &[Held]) -> bool
 
 /// Gives back the memory that is taken at these keys and that no change has.
 pub(crate) fn give_back(slots: &mut Slots, keys: &[Keys])
-    requires { IsGood slots.old }
-    ensures changes { changes_of slots.new.entries ≡ changes_of slots.old.entries }
-    ensures good { IsGood slots.new }
+    requires { IsGood (helds_of slots.old) }
+    ensures stored { stored_of slots.new.entries ≡ stored_of slots.old.entries }
+    ensures good { IsGood (helds_of slots.new) }
 {
     for own in keys {
         drop_unused(slots, &own.at);
@@ -55,9 +55,9 @@ pub(crate) fn give_back(slots: &mut Slots, keys: &[Keys])
 /// Gives back the memory that no change has, once the changes for which it was taken were put in. Each of them has its own where
 /// no deletion of rows is among them.
 pub(crate) fn give_back_unused(slots: &mut Slots, ready: &Ready)
-    requires { IsGood slots.old }
-    ensures changes { changes_of slots.new.entries ≡ changes_of slots.old.entries }
-    ensures good { IsGood slots.new }
+    requires { IsGood (helds_of slots.old) }
+    ensures stored { stored_of slots.new.entries ≡ stored_of slots.old.entries }
+    ensures good { IsGood (helds_of slots.new) }
 {
     if !ready.bare {
         give_back(slots, &ready.keys);
@@ -72,12 +72,12 @@ fn take_each(
     changes: &[Held],
     keys: &mut Vec<Keys>,
 ) -> Result<(), AllocError>
-    requires good { IsGood slots.old }
+    requires good { IsGood (helds_of slots.old) }
     requires none { keys.old.items ≡ [] }
-    ensures changes { changes_of slots.new.entries ≡ changes_of slots.old.entries }
-    ensures good { IsGood slots.new }
+    ensures stored { stored_of slots.new.entries ≡ stored_of slots.old.entries }
+    ensures good { IsGood (helds_of slots.new) }
     ensures keys { OnOk result (keys.new.items ≡ map (keys_for bare) (map place_of changes.now)) }
-    ensures there { OnOk result (AreSlotsFor slots.new changes.now) }
+    ensures there { OnOk result (AreSlotsFor (helds_of slots.new) changes.now) }
 {
     for x in changes {
         let own = Keys::of(alloc, bare, &x.place)?;
@@ -94,11 +94,11 @@ pub(crate) fn take_memory(
     bare: bool,
     changes: &[Held],
 ) -> Result<Vec<Keys>, AllocError>
-    requires { IsGood slots.old }
-    ensures changes { changes_of slots.new.entries ≡ changes_of slots.old.entries }
-    ensures good { IsGood slots.new }
+    requires { IsGood (helds_of slots.old) }
+    ensures stored { stored_of slots.new.entries ≡ stored_of slots.old.entries }
+    ensures good { IsGood (helds_of slots.new) }
     ensures keys { IfOk result (λ keys. keys.items ≡ map (keys_for bare) (map place_of changes.now)) }
-    ensures there { OnOk result (AreSlotsFor slots.new changes.now) }
+    ensures there { OnOk result (AreSlotsFor (helds_of slots.new) changes.now) }
 {
     let mut keys = Vec::with_capacity(alloc, changes.len())?;
     match take_each(slots, alloc, bare, changes, &mut keys) {

@@ -6,9 +6,10 @@ ghost use Rattle.changes.specs.declared.Held.{Held as held_value};
 ghost use Rattle.std.specs.declared.cmp.Ordering.TheVariants.{Less};
 ghost use Rattle.changes.specs.Places.{bound_cmp};
 ghost use Rattle.changes.specs.Queries.{MeetsBounds};
-ghost use Rattle.partition_content.specs.Slots.{changes_of, AreFiled};
+ghost use Rattle.partition_content.specs.Slots.{stored_of, held_in, helds_in, changes_of, AreFiled};
 ghost use Rattle.partition_content.specs.Reading.{wide_of, rows_of, first_row as first_key};
 
+use crate::Arrived;
 use crate::slots::{Slots, whole};
 use crate::spots::Spot;
 use changes::{Bound, Held};
@@ -32,15 +33,15 @@ pub(crate) fn first_row(alloc: Global) -> Spot
 fn copy_if_met(
     onto: &mut Vec<Held>,
     alloc: Global,
-    slot: &Option<Held>,
+    slot: &Option<Arrived>,
     from: &Bound,
     upto: &Bound,
 ) -> Result<(), AllocError>
-    ensures { OnOk result ((x : held_value) → Contains onto.new.items x ↔ (Contains onto.old.items x ⊎ ((slot.now ≡ Some x) × MeetsBounds from.now upto.now x.place))) }
+    ensures { OnOk result ((x : held_value) → Contains onto.new.items x ↔ (Contains onto.old.items x ⊎ ((held_in slot.now ≡ Some x) × MeetsBounds from.now upto.now x.place))) }
 {
-    if let Some(held) = slot {
-        if held.place.meets(from, upto) {
-            onto.push(held.copy(alloc)?)?;
+    if let Some(there) = slot {
+        if there.held.place.meets(from, upto) {
+            onto.push(there.held.copy(alloc)?)?;
         }
     }
     Ok(())
@@ -50,11 +51,11 @@ fn copy_if_met(
 fn copy_met(
     onto: &mut Vec<Held>,
     alloc: Global,
-    walk: Range<'_, Spot, Option<Held>>,
+    walk: Range<'_, Spot, Option<Arrived>>,
     from: &Bound,
     upto: &Bound,
 ) -> Result<(), AllocError>
-    ensures { OnOk result ((x : held_value) → Contains onto.new.items x ↔ (Contains onto.old.items x ⊎ (Contains (changes_of walk.entry) x × MeetsBounds from.now upto.now x.place))) }
+    ensures { OnOk result ((x : held_value) → Contains onto.new.items x ↔ (Contains onto.old.items x ⊎ (Contains (changes_of (helds_in walk.entry)) x × MeetsBounds from.now upto.now x.place))) }
 {
     for (_, slot) in walk {
         copy_if_met(onto, alloc, slot, from, upto)?;
@@ -70,7 +71,7 @@ fn copy_wide(
     from: &Bound,
     upto: &Bound,
 ) -> Result<(), AllocError>
-    ensures { OnOk result ((x : held_value) → Contains onto.new.items x ↔ (Contains onto.old.items x ⊎ (Contains (changes_of (wide_of slots.now.entries)) x × MeetsBounds from.now upto.now x.place))) }
+    ensures { OnOk result ((x : held_value) → Contains onto.new.items x ↔ (Contains onto.old.items x ⊎ (Contains (changes_of (wide_of (helds_in slots.now.entries))) x × MeetsBounds from.now upto.now x.place))) }
 {
     let rows = first_row(alloc);
     let walk = slots.range((ops::Bound::Unbounded, ops::Bound::Excluded(&rows)));
@@ -86,7 +87,7 @@ fn copy_between(
     upto: &Bound,
 ) -> Result<(), AllocError>
     requires { bound_cmp from.now upto.now ≡ Less }
-    ensures { OnOk result ((x : held_value) → Contains onto.new.items x ↔ (Contains onto.old.items x ⊎ (Contains (changes_of (rows_of from.now upto.now slots.now.entries)) x × MeetsBounds from.now upto.now x.place))) }
+    ensures { OnOk result ((x : held_value) → Contains onto.new.items x ↔ (Contains onto.old.items x ⊎ (Contains (changes_of (rows_of from.now upto.now (helds_in slots.now.entries))) x × MeetsBounds from.now upto.now x.place))) }
 {
     let low = Spot::Edge(from.copy(alloc)?);
     let high = Spot::Edge(upto.copy(alloc)?);
@@ -102,7 +103,7 @@ fn copy_rows(
     from: &Bound,
     upto: &Bound,
 ) -> Result<(), AllocError>
-    ensures { OnOk result ((x : held_value) → Contains onto.new.items x ↔ (Contains onto.old.items x ⊎ (Contains (changes_of (rows_of from.now upto.now slots.now.entries)) x × MeetsBounds from.now upto.now x.place))) }
+    ensures { OnOk result ((x : held_value) → Contains onto.new.items x ↔ (Contains onto.old.items x ⊎ (Contains (changes_of (rows_of from.now upto.now (helds_in slots.now.entries))) x × MeetsBounds from.now upto.now x.place))) }
 {
     match from.cmp(upto) {
         Ordering::Less => copy_between(onto, alloc, slots, from, upto),
@@ -117,8 +118,8 @@ pub(crate) fn copy_slice(
     from: &Bound,
     upto: &Bound,
 ) -> Result<Vec<Held>, AllocError>
-    requires { AreFiled slots.now.entries }
-    ensures { IfOk result (λ part. (x : held_value) → Contains part.items x ↔ (Contains (changes_of slots.now.entries) x × MeetsBounds from.now upto.now x.place)) }
+    requires { AreFiled (helds_in slots.now.entries) }
+    ensures { IfOk result (λ part. (x : held_value) → Contains part.items x ↔ (Contains (changes_of (helds_in slots.now.entries)) x × MeetsBounds from.now upto.now x.place)) }
 {
     let mut part = Vec::new(alloc);
     copy_wide(&mut part, alloc, slots, from, upto)?;
@@ -127,18 +128,43 @@ pub(crate) fn copy_slice(
 }
 
 /// Puts a copy of the change in a slot behind those that are there.
-fn copy_slot(all: &mut Vec<Held>, alloc: Global, slot: &Option<Held>) -> Result<(), AllocError>
-    ensures { OnOk result (all.new.items ≡ all.old.items ++ option_to_list slot.now) }
+fn copy_slot(all: &mut Vec<Held>, alloc: Global, slot: &Option<Arrived>) -> Result<(), AllocError>
+    ensures { OnOk result (all.new.items ≡ all.old.items ++ option_to_list (held_in slot.now)) }
 {
-    if let Some(held) = slot {
-        all.push(held.copy(alloc)?)?;
+    if let Some(there) = slot {
+        all.push(there.held.copy(alloc)?)?;
     }
     Ok(())
 }
 
+/// Puts a copy of what is in a slot behind those that are there.
+fn copy_arrived(
+    all: &mut Vec<Arrived>,
+    alloc: Global,
+    slot: &Option<Arrived>,
+) -> Result<(), AllocError>
+    ensures { OnOk result (all.new.items ≡ all.old.items ++ option_to_list slot.now) }
+{
+    if let Some(there) = slot {
+        all.push(there.copy(alloc)?)?;
+    }
+    Ok(())
+}
+
+/// Copies of all that is stored, in order.
+pub(crate) fn copy_stored(alloc: Global, slots: &Slots) -> Result<Vec<Arrived>, AllocError>
+    ensures { IfOk result (λ all. all.items ≡ stored_of slots.now.entries) }
+{
+    let mut all = Vec::new(alloc);
+    for (_, slot) in whole(slots) {
+        copy_arrived(&mut all, alloc, slot)?;
+    }
+    Ok(all)
+}
+
 /// Copies of all changes, in order.
 pub(crate) fn copy_all(alloc: Global, slots: &Slots) -> Result<Vec<Held>, AllocError>
-    ensures { IfOk result (λ all. all.items ≡ changes_of slots.now.entries) }
+    ensures { IfOk result (λ all. all.items ≡ changes_of (helds_in slots.now.entries)) }
 {
     let mut all = Vec::new(alloc);
     for (_, slot) in whole(slots) {

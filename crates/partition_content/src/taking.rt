@@ -2,7 +2,7 @@
 //! exactly where nothing that is there is it or outranks it.
 
 ghost use Rattle.std.specs.Prelude.{◌≡◌, ◌≢◌, ◌⊎◌, ◌↔◌, ◌+◌, ◌<◌, ◌≤◌, ◌^◌, ℕ, List, [], true, false, Some, None, IsTrue, IsSome, Contains, map};
-ghost use Rattle.std.specs.BTreeMap.{get, keys as keys_in};
+ghost use Rattle.std.specs.BTreeMap.{keys as keys_in};
 ghost use Rattle.std.specs.List.{sum_by};
 ghost use Rattle.std.specs.List.Sorted.{IsStrictlySortedBy};
 ghost use Rattle.changes.specs.declared.Held.{Held as held_value};
@@ -12,22 +12,25 @@ ghost use Rattle.changes.specs.Lengths.{held_length, changes_length};
 ghost use Rattle.changes.specs.Order.{Outranks};
 ghost use Rattle.partition_content.specs.Spots.{spot_cmp};
 ghost use Rattle.partition_content.specs.declared.spots.Spot.TheVariants.{At};
-ghost use Rattle.partition_content.specs.Slots.{AreCleared, AreLost, is_wide_spot, changes_of, change_in, AreFiled, HasSlot, IsReachedAt, IsOutrankedAt, IsOutrankedFrom, IsOutrankedUnder, IsGood};
+ghost use Rattle.partition_content.specs.Arrivals.{ComeAt};
+ghost use Rattle.partition_content.specs.Slots.{AreCleared, AreLeft, ComesAlone, AreLost, is_wide_spot, stored_of, held_in, helds_in, helds_of, spots_in, slot_at, changes_of, change_in, AreFiled, HasSlot, IsReachedAt, IsOutrankedAt, IsOutrankedFrom, IsOutrankedUnder, IsGood};
 ghost use Rattle.partition_content.specs.Keys.{AreKeysOf, keys_for};
 ghost use Rattle.partition_content.specs.Partition.{place_of, AreSlotsFor, AreBare, IsTakenIn};
 
+use crate::Arrived;
 use crate::keys::{Keys, Span};
 use crate::reading::first_row;
 use crate::slots::{Slots, change_at, clear_all, lost_in_row, lost_on, put_at, put_own, whole};
 use crate::spots::Spot;
 use changes::Held;
+use cs_base::Micros;
 use std::alloc::Global;
 use std::cmp::Ordering;
 use std::ops;
 
 /// Whether the change at the key is this one or beats it, where both are of one place.
 pub(crate) fn is_reached_at(slots: &Slots, at: &Spot, x: &Held) -> bool
-    ensures { IsTrue result ↔ IsReachedAt (change_in (get spot_cmp slots.now at.now)) x.now }
+    ensures { IsTrue result ↔ IsReachedAt (change_in (slot_at (helds_of slots.now) at.now)) x.now }
 {
     match change_at(slots, at) {
         Some(held) => held.rank(x) != Ordering::Less,
@@ -37,7 +40,7 @@ pub(crate) fn is_reached_at(slots: &Slots, at: &Spot, x: &Held) -> bool
 
 /// Whether the change at the key outranks this one.
 fn is_outranked_at(slots: &Slots, at: &Spot, x: &Held) -> bool
-    ensures { IsTrue result ↔ IsOutrankedAt (change_in (get spot_cmp slots.now at.now)) x.now }
+    ensures { IsTrue result ↔ IsOutrankedAt (change_in (slot_at (helds_of slots.now) at.now)) x.now }
 {
     match change_at(slots, at) {
         Some(held) => held.outranks(x),
@@ -45,11 +48,11 @@ fn is_outranked_at(slots: &Slots, at: &Spot, x: &Held) -> bool
     }
 }
 
-fn is_outranked_in(slot: &Option<Held>, x: &Held) -> bool
-    ensures { IsTrue result ↔ IsOutrankedAt slot.now x.now }
+fn is_outranked_in(slot: &Option<Arrived>, x: &Held) -> bool
+    ensures { IsTrue result ↔ IsOutrankedAt (held_in slot.now) x.now }
 {
     match slot {
-        Some(held) => held.outranks(x),
+        Some(there) => there.held.outranks(x),
         None => false,
     }
 }
@@ -77,9 +80,9 @@ fn begins_wide(slots: &Slots) -> bool
 
 /// Whether a deletion of a range or of the partition outranks the change.
 fn is_outranked_by_wide(slots: &Slots, alloc: Global, x: &Held) -> bool
-    requires { IsGood slots.now }
-    ensures told { IsTrue result → IsReachedBy (changes_of slots.now.entries) x.now }
-    ensures missed { result ≡ false → IsOutrankedFrom slots.now.entries x.now → ⊥ }
+    requires { IsGood (helds_of slots.now) }
+    ensures told { IsTrue result → IsReachedBy (changes_of (helds_in slots.now.entries)) x.now }
+    ensures missed { result ≡ false → IsOutrankedFrom (helds_in slots.now.entries) x.now → ⊥ }
 {
     if !begins_wide(slots) {
         return false;
@@ -95,7 +98,7 @@ fn is_outranked_by_wide(slots: &Slots, alloc: Global, x: &Held) -> bool
 
 /// Whether the deletion of its row outranks the change.
 fn is_outranked_under(slots: &Slots, span: &Span, x: &Held) -> bool
-    ensures { IsTrue result ↔ IsOutrankedUnder slots.now span.now x.now }
+    ensures { IsTrue result ↔ IsOutrankedUnder (helds_of slots.now) span.now x.now }
 {
     match span {
         Span::Under(row) => is_outranked_at(slots, row, x),
@@ -112,10 +115,10 @@ pub(crate) fn is_outranked_over(
     x: &Held,
 ) -> bool
     requires keys { own.now ≡ keys_for bare x.now.place }
-    requires good { IsGood slots.now }
-    requires bare { bare ≡ true → AreBare (changes_of slots.now.entries) }
-    ensures told { IsTrue result → IsReachedBy (changes_of slots.now.entries) x.now }
-    ensures missed { result ≡ false → IsReachedBy (changes_of slots.now.entries) x.now → IsReachedAt (change_in (get spot_cmp slots.now (At x.now.place))) x.now }
+    requires good { IsGood (helds_of slots.now) }
+    requires bare { bare ≡ true → AreBare (changes_of (helds_in slots.now.entries)) }
+    ensures told { IsTrue result → IsReachedBy (changes_of (helds_in slots.now.entries)) x.now }
+    ensures missed { result ≡ false → IsReachedBy (changes_of (helds_in slots.now.entries)) x.now → IsReachedAt (change_in (slot_at (helds_of slots.now) (At x.now.place))) x.now }
 {
     if bare {
         return false;
@@ -129,9 +132,9 @@ pub(crate) fn is_outranked_over(
 /// The length of the changes that the deletion of rows outranks.
 fn lost_by(slots: &Slots, own: &Keys, x: &Held) -> u64
     requires keys { AreKeysOf own.now x.now.place }
-    requires filed { AreFiled slots.now.entries }
-    requires fits { sum_by held_length (changes_of slots.now.entries) < 2 ^ 64 }
-    ensures { AreLost x.now slots.now.entries result }
+    requires filed { AreFiled (helds_in slots.now.entries) }
+    requires fits { sum_by held_length (changes_of (helds_in slots.now.entries)) < 2 ^ 64 }
+    ensures { AreLost x.now (helds_in slots.now.entries) result }
 {
     match &own.span {
         Span::Row(end) => lost_in_row(slots, &own.at, end, x),
@@ -141,9 +144,10 @@ fn lost_by(slots: &Slots, own: &Keys, x: &Held) -> u64
 
 /// Takes out the changes that x outranks, which have this length together.
 fn clear(slots: &mut Slots, x: &Held, lost: u64)
-    requires { AreLost x.now slots.old.entries lost }
-    ensures cleared { AreCleared x.now slots.old.entries slots.new.entries }
-    ensures keys { keys_in slots.new ≡ keys_in slots.old }
+    requires { AreLost x.now (helds_in slots.old.entries) lost }
+    ensures cleared { AreCleared x.now (helds_in slots.old.entries) (helds_in slots.new.entries) }
+    ensures left { AreLeft slots.old.entries slots.new.entries }
+    ensures keys { spots_in (helds_of slots.new) ≡ spots_in (helds_of slots.old) }
 {
     if lost != 0 {
         clear_all(slots, x);
@@ -151,14 +155,15 @@ fn clear(slots: &mut Slots, x: &Held, lost: u64)
 }
 
 /// Takes in a deletion of rows for which there is memory, and gives the length that the changes then have.
-fn put_deletion(slots: &mut Slots, length: u64, own: &Keys, x: Held) -> u64
+fn put_deletion(slots: &mut Slots, length: u64, own: &Keys, x: Held, time: Micros) -> u64
     requires keys { AreKeysOf own.now x.place }
-    requires slot { HasSlot slots.old x.place }
-    requires good { IsGood slots.old }
-    requires length { length ≡ changes_length (changes_of slots.old.entries) }
+    requires slot { HasSlot (helds_of slots.old) x.place }
+    requires good { IsGood (helds_of slots.old) }
+    requires length { length ≡ changes_length (changes_of (helds_in slots.old.entries)) }
     requires fits { length + held_length x < 2 ^ 64 }
-    requires reached { IsReachedBy (changes_of slots.old.entries) x → IsReachedAt (change_in (get spot_cmp slots.old (At x.place))) x }
-    ensures { IsTakenIn slots.old slots.new x length result }
+    requires reached { IsReachedBy (changes_of (helds_in slots.old.entries)) x → IsReachedAt (change_in (slot_at (helds_of slots.old) (At x.place))) x }
+    ensures taken { IsTakenIn (helds_of slots.old) (helds_of slots.new) x length result }
+    ensures comes { ComesAlone time x slots.old.entries slots.new.entries }
 {
     if is_reached_at(slots, &own.at, &x) {
         return length;
@@ -166,22 +171,23 @@ fn put_deletion(slots: &mut Slots, length: u64, own: &Keys, x: Held) -> u64
     let lost = lost_by(slots, own, &x);
     let gained = x.encoded_length();
     clear(slots, &x, lost);
-    put_at(slots, &own.at, x);
+    put_at(slots, &own.at, x, time);
     length - lost + gained
 }
 
 /// Takes in a cell or a marker for which there is memory, and gives the length that the changes then have.
-fn put_cell(slots: &mut Slots, length: u64, own: &Keys, x: Held) -> u64
+fn put_cell(slots: &mut Slots, length: u64, own: &Keys, x: Held, time: Micros) -> u64
     requires at { own.now.at ≡ At x.place }
     requires narrow { IsInnermost x.place }
-    requires slot { HasSlot slots.old x.place }
-    requires good { IsGood slots.old }
-    requires length { length ≡ changes_length (changes_of slots.old.entries) }
+    requires slot { HasSlot (helds_of slots.old) x.place }
+    requires good { IsGood (helds_of slots.old) }
+    requires length { length ≡ changes_length (changes_of (helds_in slots.old.entries)) }
     requires fits { length + held_length x < 2 ^ 64 }
-    requires reached { IsReachedBy (changes_of slots.old.entries) x → IsReachedAt (change_in (get spot_cmp slots.old (At x.place))) x }
-    ensures { IsTakenIn slots.old slots.new x length result }
+    requires reached { IsReachedBy (changes_of (helds_in slots.old.entries)) x → IsReachedAt (change_in (slot_at (helds_of slots.old) (At x.place))) x }
+    ensures taken { IsTakenIn (helds_of slots.old) (helds_of slots.new) x length result }
+    ensures comes { ComesAlone time x slots.old.entries slots.new.entries }
 {
-    put_own(slots, length, &own.at, x)
+    put_own(slots, length, &own.at, x, time)
 }
 
 /// Takes in a change for which there is memory, and gives the length that the changes then have.
@@ -192,26 +198,28 @@ pub(crate) fn put(
     bare: bool,
     own: &Keys,
     x: Held,
+    time: Micros,
 ) -> u64
     requires keys { own.now ≡ keys_for bare x.place }
-    requires slot { HasSlot slots.old x.place }
-    requires good { IsGood slots.old }
-    requires length { length ≡ changes_length (changes_of slots.old.entries) }
+    requires slot { HasSlot (helds_of slots.old) x.place }
+    requires good { IsGood (helds_of slots.old) }
+    requires length { length ≡ changes_length (changes_of (helds_in slots.old.entries)) }
     requires fits { length + held_length x < 2 ^ 64 }
-    requires bare { bare ≡ true → AreBare (changes_of slots.old.entries) }
+    requires bare { bare ≡ true → AreBare (changes_of (helds_in slots.old.entries)) }
     requires narrow { bare ≡ true → IsInnermost x.place }
-    ensures { IsTakenIn slots.old slots.new x length result }
+    ensures taken { IsTakenIn (helds_of slots.old) (helds_of slots.new) x length result }
+    ensures comes { ComesAlone time x slots.old.entries slots.new.entries }
 {
     if is_outranked_over(slots, alloc, bare, own, &x) {
         return length;
     }
     match &own.span {
-        Span::Alone | Span::Under(_) => put_cell(slots, length, own, x),
-        Span::Row(_) | Span::Rows(_, _) | Span::All => put_deletion(slots, length, own, x),
+        Span::Alone | Span::Under(_) => put_cell(slots, length, own, x, time),
+        Span::Row(_) | Span::Rows(_, _) | Span::All => put_deletion(slots, length, own, x, time),
     }
 }
 
-/// Takes in changes for which there is memory, and gives the length that the changes then have.
+/// Takes in changes for which there is memory, at a node time, and gives the length that the changes then have.
 pub(crate) fn put_all(
     slots: &mut Slots,
     length: u64,
@@ -219,22 +227,24 @@ pub(crate) fn put_all(
     bare: bool,
     keys: &[Keys],
     changes: Vec<Held>,
+    time: Micros,
 ) -> u64
     requires keys { keys.now ≡ map (keys_for bare) (map place_of changes.items) }
-    requires slots { AreSlotsFor slots.old changes.items }
-    requires good { IsGood slots.old }
-    requires length { length ≡ changes_length (changes_of slots.old.entries) }
-    requires fits { changes_length (changes_of slots.old.entries) + changes_length changes.items < 2 ^ 64 }
-    requires bare { bare ≡ true → AreBare (changes_of slots.old.entries) }
+    requires slots { AreSlotsFor (helds_of slots.old) changes.items }
+    requires good { IsGood (helds_of slots.old) }
+    requires length { length ≡ changes_length (changes_of (helds_in slots.old.entries)) }
+    requires fits { changes_length (changes_of (helds_in slots.old.entries)) + changes_length changes.items < 2 ^ 64 }
+    requires bare { bare ≡ true → AreBare (changes_of (helds_in slots.old.entries)) }
     requires narrow { bare ≡ true → AreBare changes.items }
-    ensures content { IsContent (changes_of slots.new.entries) (Either (Contains (changes_of slots.old.entries)) (Contains changes.items)) }
-    ensures good { IsGood slots.new }
-    ensures length { result ≡ changes_length (changes_of slots.new.entries) }
+    ensures content { IsContent (changes_of (helds_in slots.new.entries)) (Either (Contains (changes_of (helds_in slots.old.entries))) (Contains changes.items)) }
+    ensures arrivals { ComeAt time (stored_of slots.old.entries) (stored_of slots.new.entries) }
+    ensures good { IsGood (helds_of slots.new) }
+    ensures length { result ≡ changes_length (changes_of (helds_in slots.new.entries)) }
 {
     let mut length = length;
     let mut at = 0;
     for x in changes {
-        length = put(slots, length, alloc, bare, &keys[at], x);
+        length = put(slots, length, alloc, bare, &keys[at], x, time);
         at += 1;
     }
     length

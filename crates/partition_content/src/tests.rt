@@ -1,6 +1,6 @@
 //! What is kept of a partition beside a plain list of changes, each of which is compared with all others.
 
-use crate::PartitionContent;
+use crate::{Arrived, PartitionContent};
 use cell_merge::Content;
 use changes::{Bound, Held, Place, encoded_length, in_order};
 use cs_base::{Bytes, Micros, NodeId, ReqId};
@@ -128,7 +128,7 @@ fn keeps_what_a_plain_list_keeps(rt: HostRuntime) -> Result<(), Fail> {
             content.reserve(&incoming)?;
             plain = plain_merge(alloc, &plain, incoming.as_slice())?;
             assert_eq!(rt; content.length_with(&incoming), encoded_length(&plain));
-            content.apply(incoming);
+            content.apply(incoming, Micros::new(1));
             let whole = content.whole(alloc)?;
             assert_eq!(rt; whole.as_slice(), plain.as_slice());
             assert_eq!(rt; content.encoded_length(), encoded_length(&plain));
@@ -139,6 +139,123 @@ fn keeps_what_a_plain_list_keeps(rt: HostRuntime) -> Result<(), Fail> {
             let part = plain_slice(alloc, &plain, &from, &upto)?;
             assert_eq!(rt; slice.as_slice(), part.as_slice());
         }
+    }
+    Ok(())
+}
+
+/// What stays of a list, and what comes to it at a time.
+fn plain_arrivals(
+    alloc: Global,
+    kept: &[Arrived],
+    incoming: &[Held],
+    at: Micros,
+) -> Result<Vec<Arrived>, AllocError> {
+    let mut now = Vec::new(alloc);
+    for there in kept {
+        if !incoming.iter().any(|x| x.outranks(&there.held)) {
+            now.push(there.copy(alloc)?)?;
+        }
+    }
+    for x in incoming {
+        if !kept
+            .iter()
+            .any(|there| there.held == *x || there.held.outranks(x))
+        {
+            now.push(Arrived {
+                held: x.copy(alloc)?,
+                arrival: at,
+            })?;
+        }
+    }
+    Ok(now)
+}
+
+/// What a list has at a place.
+fn plain_at<'a>(kept: &'a [Arrived], place: &Place) -> Option<&'a Arrived> {
+    for there in kept {
+        if there.held.place == *place {
+            return Some(there);
+        }
+    }
+    None
+}
+
+#[test]
+fn keeps_the_arrivals_that_a_plain_list_keeps(rt: HostRuntime) -> Result<(), Fail> {
+    let alloc = rt.alloc();
+    for start in 0..12 {
+        let mut seed = start;
+        let mut content = PartitionContent::new(alloc);
+        let mut plain = Vec::new(alloc);
+        for time in 0..25 {
+            let at = Micros::new(time);
+            let incoming = content_of(alloc, &mut seed)?;
+            content.reserve(&incoming)?;
+            plain = plain_arrivals(alloc, &plain, incoming.as_slice(), at)?;
+            content.apply(incoming, at);
+            let stored = content.stored(alloc)?;
+            assert_eq!(rt; stored.len(), plain.len());
+            for there in &stored {
+                assert_eq!(rt; Some(there), plain_at(&plain, &there.held.place));
+            }
+            let place = place(alloc, &mut seed)?;
+            let there = plain_at(&plain, &place);
+            assert_eq!(rt; content.get(place.copy(alloc)?), there);
+        }
+    }
+    Ok(())
+}
+
+/// Puts in one change of row "a" at a time, and tells when what then stands in its first column came.
+fn arrival_after(
+    alloc: Global,
+    content: &mut PartitionContent,
+    deletes_row: bool,
+    timestamp: i64,
+    time: u64,
+) -> Result<Option<u64>, AllocError> {
+    let row = Bytes::from_slice(alloc, b"a")?;
+    let cell = Place::Cell(row.copy(alloc)?, 1);
+    let place = if deletes_row {
+        Place::RowGone(row)
+    } else {
+        cell.copy(alloc)?
+    };
+    let mut changes = Vec::new(alloc);
+    changes.push(Held {
+        place,
+        value: None,
+        timestamp,
+        submitted: Micros::new(1),
+        request: ReqId {
+            node: NodeId::FIRST,
+            time: Micros::new(1),
+        },
+    })?;
+    let incoming = Content::from_changes(alloc, changes)?;
+    content.reserve(&incoming)?;
+    content.apply(incoming, Micros::new(time));
+    Ok(content.get(cell).map(|there| there.arrival.count()))
+}
+
+#[test]
+fn a_cell_keeps_its_arrival_until_another_comes(rt: HostRuntime) -> Result<(), Fail> {
+    let alloc = rt.alloc();
+    let mut content = PartitionContent::new(alloc);
+    let steps = [
+        (false, 5, 10, Some(10)),
+        (false, 5, 11, Some(10)),
+        (false, 4, 12, Some(10)),
+        (true, 4, 13, Some(10)),
+        (false, 6, 14, Some(14)),
+        (true, 6, 15, None),
+        (false, 6, 16, None),
+        (false, 7, 17, Some(17)),
+        (false, 7, 18, Some(17)),
+    ];
+    for (deletes_row, timestamp, time, arrival) in steps {
+        let now = arrival_after(alloc, &mut content, deletes_row, timestamp, time)?;
+        assert_eq!(rt; now, arrival);
     }
     Ok(())
 }

@@ -1,7 +1,7 @@
 use Rattle.std.proofs.Common.{◌≡◌, ◌++◌}
-use Rattle.partition_content.specs.Slots.{changes_of}
+use Rattle.partition_content.specs.Slots.{changes_of, helds_in}
 use Rattle.partition_content.proofs.reading.copy_all.Given as goal
 
 -- the changes so far, and those to come
 abbrev pub invariant-loop-slot : goal.invariant-loop-slot
-invariant-loop-slot l = l.all.items ++ changes_of l.slot-iterator ≡ changes_of l.slots.entries
+invariant-loop-slot l = l.all.items ++ changes_of (helds_in l.slot-iterator) ≡ changes_of (helds_in l.slots.entries)
