@@ -32,8 +32,7 @@ bounds-keys-at c =
 
 pub lost_by-kept-requires-clause-keys : goal.lost_by-kept-requires-clause-keys
 lost_by-kept-requires-clause-keys c =
-    let below : c.loop-x.x-index < length c.args.changes.now = omega arith in
-    (
+    let below : c.loop-x.x-index < length c.args.changes.now = omega arith in (
       c.requires.keys.0,
       key_of c.requires.keys.0 c.args.keys.now c.args.changes.now (take c.loop-x.x-index c.args.changes.now) (c.x-item.result ∷ drop (c.loop-x.x-index + 1) c.args.changes.now) (drop (c.loop-x.x-index + 1) c.args.changes.now) c.x-item.result c.loop-x.at c.index-keys-at.result c.requires.keys.1
           (split_at c.args.changes.now c.loop-x.x-index c.x-item.result below c.x-item.is) refl (c.loop-x.invariant.count ∙ sym (length-take-le c.loop-x.x-index c.args.changes.now (omega (arith, below)))) c.index-keys-at.is,
