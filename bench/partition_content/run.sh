@@ -1,6 +1,7 @@
 #!/usr/bin/env bash
 # Cells applied one by one to what is kept of one partition, ten to a row: how the time grows with their number. Where it
-# grows as n log n the last column stays about the same. Then as many cells to one row.
+# grows as n log n the last column stays about the same. Then as many cells to one row, and the deletion of rows one after
+# another, whose time each grows with the logarithm of the cells.
 # Usage: run.sh [TURNS], after `rt run` in crates/partition_content_bench built the program.
 set -euo pipefail
 cd "$(dirname "$0")"
@@ -11,7 +12,7 @@ program=../../crates/partition_content_bench/out/partition_content_bench
 best() {
     local best= micros
     for turn in $(seq "$turns"); do
-        micros=$("$program" "$1" "$2")
+        micros=$("$program" "$@")
         if [ -z "$best" ] || [ "$micros" -lt "$best" ]; then best=$micros; fi
     done
     echo "$best"
@@ -22,3 +23,6 @@ for count in 25000 50000 100000 200000; do
         printf "%6d cells in %6d rows: %7.1f ms, %6.2f us each, %5.3f us each by log2 n\n", n, n / 10, t / 1000, t / n, t / n / (log(n) / log(2)) }'
 done
 awk -v n=100000 -v t="$(best row 100000)" 'BEGIN { printf "%6d cells in one row: %7.1f ms, %6.2f us each\n", n, t / 1000, t / n }'
+for count in 10000 100000; do
+    awk -v n="$count" -v t="$(best delete "$count" 1000)" 'BEGIN { printf "1000 rows deleted after %6d cells: %7.1f ms, %6.2f us each\n", n, t / 1000, t / 1000 }'
+done
