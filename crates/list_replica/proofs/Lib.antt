@@ -1,0 +1,4 @@
+mod Looking
+mod Listing
+pub mod Standing
+mod RowLooking

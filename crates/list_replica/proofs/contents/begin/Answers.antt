@@ -1,0 +1,16 @@
+use Rattle.std.proofs.Common.{◌≡◌, ◌∙◌, ap, sym, subst, None}
+use Rattle.std.specs.BTreeMap.{get}
+use Rattle.changes.specs.declared.Partition.{Partition}
+use Rattle.changes.specs.Order.{partition_cmp}
+use Rattle.list_replica.specs.Stores.{all_of}
+use Rattle.list_replica.proofs.Looking.{all_inserted, away}
+use Rattle.list_replica.proofs.contents.begin.Goals as goal
+
+pub returns-clause-stored : goal.returns-clause-stored
+returns-clause-stored c =
+    ap all_of c.in_ok-insert.ensures.entries
+    ∙ all_inserted c.in_ok-key.key c.reserve.new.self c.args.contents.now.entries (c.reserve.ensures.stored ∙ c.new-content.ensures.stored)
+    (subst (λ (q : Partition). get partition_cmp c.args.contents.now q ≡ None) (sym c.in_ok-key.ensures) c.requires.new)
+
+pub returns-clause-others : goal.returns-clause-others
+returns-clause-others c q other = c.in_ok-insert.ensures.updates.2 q (away c.in_ok-key.key q (λ e. other (e ∙ c.in_ok-key.ensures)))

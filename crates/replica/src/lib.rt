@@ -1,0 +1,16 @@
+//! What a node keeps through crashes: the trait of its store, whatever that is made of. What a commit was answered `Ok` for is
+//! there after each crash, and what one was not answered for is there whole or not at all.
+#![tactic(auto)]
+
+mod error;
+mod kept;
+mod laws;
+mod merge;
+mod replica;
+
+pub use durable_state::{LastNumber, RowAt};
+pub use error::{CallError, FinishError, LoadError, RoomError};
+pub use kept::{Kept, Partitions};
+pub use laws::crashes_leave_a_front;
+pub use merge::{Graces, MergeDone, MergeJob, Purged, Purges};
+pub use replica::Replica;
