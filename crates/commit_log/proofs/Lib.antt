@@ -1,5 +1,5 @@
 mod Appended
 mod Loading
-mod Readings
+pub mod Readings
 mod Refusals
 mod Spellings

@@ -84,7 +84,7 @@ one_on a b same one x y h k change = one x y ((same.content x).0 h) ((same.conte
 
 -- ---- hints and their numbers
 
-last_filter : (ns : List LastNumber) (peer q : ℕ) → (peer == q) ≡ false → last_of (filter (λ (n : LastNumber). not (n.peer == peer)) ns) q ≡ last_of ns q
+pub last_filter : (ns : List LastNumber) (peer q : ℕ) → (peer == q) ≡ false → last_of (filter (λ (n : LastNumber). not (n.peer == peer)) ns) q ≡ last_of ns q
 last_filter [] peer q e = refl
 last_filter (m ∷ ns) peer q e = go (last_filter ns peer q e) (m.peer == peer) refl
   where

@@ -26,7 +26,7 @@ kept_under S T first kept f h x k s =
     (content_is_tops S first f x).1 (s, λ y t over. top.1 y (inl t) over)
 
 -- the content of a set and more is that of the set's content and more
-content_under : (S T : Held → Type 0) (first kept : List Held) → IsContent first S → IsContent kept (Either S T) → IsContent kept (Either (Contains first) T)
+pub content_under : (S T : Held → Type 0) (first kept : List Held) → IsContent first S → IsContent kept (Either S T) → IsContent kept (Either (Contains first) T)
 content_under S T first kept f h = record {
   within = λ x k. elim (h.within x k) [ inl s ↦ inl (kept_under S T first kept f h x k s) | inr t ↦ inr t ];
   reached = λ x u. elim u [ inl k ↦ h.reached x (inl (f.within x k)) | inr t ↦ h.reached x (inr t) ];
@@ -35,7 +35,7 @@ content_under S T first kept f h = record {
 
 -- ---- which partitions are touched
 
-touched_or_not : (ms : List Mutation) (p : Partition) → OrNot (IsTouched ms p)
+pub touched_or_not : (ms : List Mutation) (p : Partition) → OrNot (IsTouched ms p)
 touched_or_not [] p = inr (λ t. contains_nil t.0 t.1)
 touched_or_not (m ∷ ms) p = elim (same_or_apart m.partition p) [
   | inl same ↦ inl (m, contains_here m ms, same)
@@ -51,13 +51,13 @@ touched_more m ms p t = (t.0, contains_there m ms t.0 t.1, t.2)
 touched_apart : (m : Mutation) (ms : List Mutation) (q : Partition) → q ≢ m.partition → (IsTouched ms q → ⊥) → IsTouched (m ∷ ms) q → ⊥
 touched_apart m ms q other n t = elim (contains_cases m ms t.0 t.1) [ inl e ↦ other (sym (ap (λ (v : Mutation). v.partition) e ∙ t.2)) | inr later ↦ n (t.0, later, t.2) ]
 
-in_rest : (m : Mutation) (ms : List Mutation) (p : Partition) (x : Held) → InOne ms p x → InOne (m ∷ ms) p x
+pub in_rest : (m : Mutation) (ms : List Mutation) (p : Partition) (x : Held) → InOne ms p x → InOne (m ∷ ms) p x
 in_rest m ms p x h = (h.0, contains_there m ms h.0 h.1, h.2, h.3)
 
-in_first : (m : Mutation) (ms : List Mutation) (x : Held) → Contains m.changes x → InOne (m ∷ ms) m.partition x
+pub in_first : (m : Mutation) (ms : List Mutation) (x : Held) → Contains m.changes x → InOne (m ∷ ms) m.partition x
 in_first m ms x k = (m, contains_here m ms, refl, k)
 
-in_cases : (m : Mutation) (ms : List Mutation) (p : Partition) (x : Held) → InOne (m ∷ ms) p x → ((m.partition ≡ p) × Contains m.changes x) ⊎ InOne ms p x
+pub in_cases : (m : Mutation) (ms : List Mutation) (p : Partition) (x : Held) → InOne (m ∷ ms) p x → ((m.partition ≡ p) × Contains m.changes x) ⊎ InOne ms p x
 in_cases m ms p x h = elim (contains_cases m ms h.0 h.1) [
   | inl e ↦ inl (ap (λ (v : Mutation). v.partition) e ∙ h.2, subst (λ (v : Mutation). Contains v.changes x) (sym e) h.3)
   | inr later ↦ inr (h.0, later, h.2, h.3)

@@ -1,4 +1,13 @@
-mod Looking
+mod Coming
+mod Gathering
+mod Growing
+mod Items
+mod Keeping
+mod Leaving
 mod Listing
-pub mod Standing
+mod Looking
+mod Replaying
 mod RowLooking
+mod Sound
+mod Wholeness
+pub mod Standing

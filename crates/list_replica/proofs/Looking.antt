@@ -6,7 +6,7 @@ use Rattle.std.specs.Ordering.{is_eq, match_ordering, eq_by_cmp}
 use Rattle.std.specs.declared.cmp.Ordering.{Ordering}
 use Rattle.std.specs.declared.cmp.Ordering.TheVariants.{Less, Equal, Greater}
 use Rattle.std.specs.BTreeMap.{BTreeMap, is_at, get, insert_entry, IsOrdered}
-use Rattle.std.proofs.lemmas.Cmp.{eq_by_cmp_equiv}
+use Rattle.std.proofs.lemmas.Cmp.{eq_by_cmp_equiv, tied_itself}
 use Rattle.std.proofs.lemmas.Map.Keys.{IsDistinct-from_sorted}
 use Rattle.std.proofs.lemmas.Map.Views.{Contains-from_lookup, lookup-from_Contains}
 use Rattle.cs_base.proofs.Members.{contains_nil, contains_map, contains_from_map, contains_flat, contains_from_flat}
@@ -26,6 +26,8 @@ use Rattle.partition_content.specs.Arrivals.{held_of, ComeAt}
 use Rattle.partition_content.specs.Partition.{Partition as Content, changes_in}
 use Rattle.durable_state.specs.State.{Stored, change_of, changes_of, Holds}
 use Rattle.durable_state.specs.Taking.{TakesIn, ArriveAt}
+use Rattle.list_replica.specs.declared.staging.Staged.{Staged}
+use Rattle.list_replica.specs.Staging.{Comes}
 use Rattle.list_replica.specs.Stores.{stored, stored_all, all_of, stored_if, stored_at}
 
 abbrev Map : Type 0
@@ -33,6 +35,9 @@ Map = BTreeMap Partition Content
 
 pub same_partition : (a b : Partition) → eq_by_cmp partition_cmp a b ≡ true → a ≡ b
 same_partition a b t = partition_exact a b (equal_is (partition_cmp a b) t)
+
+pub is_itself : (a b : Partition) → a ≡ b → eq_by_cmp partition_cmp a b ≡ true
+is_itself a b e = subst (λ (p : Partition). eq_by_cmp partition_cmp a p ≡ true) e (ap is_eq (tied_itself partition_total a))
 
 -- ---- look-ups
 
@@ -170,6 +175,14 @@ arrives_found m n p old new time ordered ordered' at at' come others =
     arrives m n p time ordered ordered'
     (subst (λ (o : Option Content). ComeAt time (stored_at m p) (stored_if o)) (sym at') (subst (λ (o : Option Content). ComeAt time (stored_if o) new.stored) at come))
     others
+
+pub comes_found : (m n : Map) (s : Staged) (old new : Content) (time : ℕ) → Some old ≡ get partition_cmp m s.partition → get partition_cmp n s.partition ≡ Some new
+    → IsMergeOf (changes_in new) (changes_in old) s.changes → ComeAt time old.stored new.stored → Comes time m n s
+comes_found m n s old new time at at' merge come = record {
+  merged = subst (λ (o : Option Content). IsMergeOf (map held_of (stored_if o)) (map held_of (stored_at m s.partition)) s.changes) (sym at')
+      (subst (λ (o : Option Content). IsMergeOf (changes_in new) (map held_of (stored_if o)) s.changes) at merge);
+  arrivals = subst (λ (o : Option Content). ComeAt time (stored_at m s.partition) (stored_if o)) (sym at') (subst (λ (o : Option Content). ComeAt time (stored_if o) new.stored) at come);
+}
 
 -- ---- what is asked
 

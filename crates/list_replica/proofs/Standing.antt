@@ -1,9 +1,8 @@
 -- What the file of a log stands for, and what crashes leave of it.
-use Rattle.std.proofs.Common.{◌≡◌, inl, inr, ℕ, List, [], ◌∷◌, ◌++◌, refl, sym, ◌∙◌, subst, arith}
+use Rattle.std.proofs.Common.{◌≡◌, inl, inr, ℕ, Option, List, [], ◌∷◌, ◌++◌, refl, sym, ◌∙◌, subst, arith}
 use Rattle.std.specs.Prelude.{map}
 use Rattle.std.proofs.lemmas.List.{map-append}
 use Rattle.cs_store.specs.Disk.{Disk, IsSettled, Stays, Passes, LeavesOnly}
-use Rattle.cs_store.specs.Images.{formatted_bytes}
 use Rattle.cs_store.proofs.Crashes.{first_call, files_left, all_weaker}
 use Rattle.commit_log.specs.Format.{ReadsEntries, IsOneReading, Adds, IsBeforeOrAfter, ReadsAlike}
 use Rattle.row_change.specs.declared.entry.LogEntry.{LogEntry}
@@ -17,52 +16,8 @@ use Rattle.durable_state.proofs.Same.{same_itself}
 use Rattle.replica.specs.Finding.{StandFor, AlwaysLeaves, IsSafe}
 use Rattle.replica.specs.Calls.{CommitEach}
 use Rattle.replica.proofs.Fronts.{each_more}
-use Rattle.list_replica.specs.Standing.{items_of, StandsFor, IsDamagedAt}
-
--- a file reads in one way
-abbrev pub ReadsOnce : Type 0
-ReadsOnce = (file : List ℕ) → IsOneReading file
-
--- ---- one state
-
-each_is_one : (xs : List (List LogItem)) (a b a' b' : Durable) → IsSameKept a b → HasOneArrival a.content → CommitEach xs a a' → CommitEach xs b b' → IsSameKept a' b' × HasOneArrival a'.content
-each_is_one [] a b a' b' same one is is_b =
-    (subst (λ (d : Durable). IsSameKept d b') (sym is) (subst (λ (d : Durable). IsSameKept a d) (sym is_b) same), subst (λ (d : Durable). HasOneArrival d.content) (sym is) one)
-each_is_one (x ∷ xs) a b a' b' same one (mid, makes, more) (mid_b, makes_b, more_b) =
-    let first = kept_is_one x a b mid mid_b same one makes makes_b in
-    each_is_one xs mid mid_b a' b' first.0 first.1 more more_b
-
-none_arrives_twice : HasOneArrival []
-none_arrives_twice x y h k e = absurd (omega (arith, h.1))
-
-same_entries : ReadsOnce → (files : ℕ → List ℕ) (a b : Durable) (p : StandsFor files a) (q : StandsFor files b) → p.entries ≡ q.entries
-same_entries once files a b p q = (once (files 0)).0 p.entries q.entries p.reads q.reads
-
-pub stand_for_one : ReadsOnce → (files : ℕ → List ℕ) (a b : Durable) → StandsFor files a → StandsFor files b → IsSameKept a b
-stand_for_one once files a b p q =
-    (each_is_one (map items_of q.entries) formatted formatted a b (same_itself formatted) none_arrives_twice
-    (subst (λ (es : List LogEntry). CommitEach (map items_of es) formatted a) (same_entries once files a b p q) p.made) q.made).0
-
-pub arrive_once : (files : ℕ → List ℕ) (d : Durable) → StandsFor files d → HasOneArrival d.content
-arrive_once files d p = (each_is_one (map items_of p.entries) formatted formatted d d (same_itself formatted) none_arrives_twice p.made p.made).1
-
-pub stand_undamaged : ReadsOnce → (files : ℕ → List ℕ) (d : Durable) (f p : ℕ) → StandsFor files d → IsDamagedAt files f p → ⊥
-stand_undamaged once files d f p stands damaged = (once (files 0)).1 stands.entries p stands.reads damaged.1
-
-pub damaged_at_one : ReadsOnce → (files : ℕ → List ℕ) (f p g q : ℕ) → IsDamagedAt files f p → IsDamagedAt files g q → (f ≡ g) × (p ≡ q)
-damaged_at_one once files f p g q a b = (a.0 ∙ sym b.0, (once (files 0)).2 p q a.1 b.1)
-
--- ---- files
-
-stands_alike : (files others : ℕ → List ℕ) (d : Durable) → others 0 ≡ files 0 → StandsFor files d → StandsFor others d
-stands_alike files others d same p = record { entries = p.entries; reads = subst (λ (l : List ℕ). ReadsEntries p.entries l) (sym same) p.reads; made = p.made }
-
-pub begins_empty : (files : ℕ → List ℕ) → ((k : ℕ) → files k ≡ formatted_bytes k) → StandsFor files formatted
-begins_empty files is = record {
-  entries = [];
-  reads = subst (λ (l : List ℕ). ReadsEntries [] l) (sym (is 0)) (record { words = []; reads = record { gate = 0; rest = []; split = refl; closed = λ e. cc; short = tt }; each = tt });
-  made = refl;
-}
+use Rattle.list_replica.specs.Laws.{ReadsOnce, stands_alike}
+use Rattle.list_replica.specs.Standing.{items_of, StandsFor}
 
 -- an entry is in the log, and what it makes is made
 pub appended : (entry : LogEntry) (files others : ℕ → List ℕ) (d d' : Durable) → StandsFor files d → Commits entry.items d d' → Adds entry (files 0) (others 0) → StandsFor others d'
@@ -73,10 +28,6 @@ appended entry files others d d' p makes adds = record {
 }
 
 -- ---- what crashes leave
-
--- a file that is on the disk
-pub settled_is_safe : (d : Durable) (disk : Disk) → StandsFor disk.seen d → IsSettled 0 disk → IsSafe StandsFor d disk
-settled_is_safe d disk p settled files image = record { kept = d; stands = stands_alike disk.seen files d (settled (files 0) (image 0)) p; one = same_itself d }
 
 -- the file may read as with the entry or as without
 found_then : (entry : LogEntry) (old : ℕ → List ℕ) (files : ℕ → List ℕ) (d : Durable) → StandsFor old d → IsBeforeOrAfter entry (old 0) (files 0) → StandFor StandsFor (IsWithOrWithout entry.items d) files

@@ -1,4 +1,11 @@
 pub mod Stores
 pub mod Standing
+pub mod Keeping
+pub mod Staging
+pub mod Memtables
 pub mod Rows
 pub mod Numbers
+pub mod Replays
+pub mod Removing
+pub mod Wholeness
+pub mod Laws

@@ -1,15 +1,12 @@
--- The rows of partitions, as a list.
-use Rattle.std.specs.Prelude.{List, [], ◌∷◌, flat_map, Option, None, Some}
+-- Rows and last numbers, as lists.
+use Rattle.std.specs.Prelude.{ℕ}
 use Rattle.changes.specs.declared.Partition.{Partition}
 use Rattle.row_change.specs.declared.entry.PaxosRow.{PaxosRow}
+use Rattle.durable_state.specs.declared.parts.LastNumber.{LastNumber}
 use Rattle.durable_state.specs.declared.parts.RowAt.{RowAt}
 
-abbrev pub row_if : Partition → Option PaxosRow → List RowAt
-row_if p None = []
-row_if p (Some row) = record { partition = p; row = row } ∷ []
+abbrev pub row_entry : Partition × PaxosRow → RowAt
+row_entry e = record { partition = e.0; row = e.1 }
 
-abbrev pub row_in : Partition × Option PaxosRow → List RowAt
-row_in e = row_if e.0 e.1
-
-abbrev pub rows_of : List (Partition × Option PaxosRow) → List RowAt
-rows_of entries = flat_map row_in entries
+abbrev pub number_entry : ℕ × ℕ → LastNumber
+number_entry e = record { peer = e.0; last = e.1 }

@@ -11,6 +11,7 @@ ghost use Rattle.changes.specs.Queries.{MeetsBounds};
 ghost use Rattle.durable_state.specs.State.{changes_of, Holds};
 ghost use Rattle.durable_state.specs.Taking.{ArriveAt, TakesIn};
 ghost use Rattle.list_replica.specs.Stores.{all_of, listed, IsReadyAt};
+ghost use Rattle.list_replica.specs.Staging.{Comes};
 
 use cell_merge::Content;
 use changes::{Bound, Partition};
@@ -69,6 +70,7 @@ pub fn take_in(contents: &mut Contents, partition: &Partition, incoming: Content
     requires ready { IsReadyAt contents.old partition.now incoming }
     ensures takes { TakesIn (changes_of (all_of contents.old.entries)) partition.now incoming (changes_of (all_of contents.new.entries)) }
     ensures arrivals { ArriveAt at (all_of contents.old.entries) (all_of contents.new.entries) }
+    ensures comes { Comes at contents.old contents.new (record { partition = partition.now; changes = incoming }) }
     ensures ordered { IsOrdered partition_cmp contents.new }
     ensures others { (q : partition_value) → q ≢ partition.now → get partition_cmp contents.new q ≡ get partition_cmp contents.old q }
 {

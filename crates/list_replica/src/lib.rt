@@ -2,11 +2,11 @@
 #![tactic(auto)]
 
 mod contents;
-mod copies;
 mod hints;
-mod rows;
+mod memtable;
+mod removing;
+mod replay;
+mod replica;
+mod staging;
 
-pub use contents::{Contents, between, partitions, reserve, take_in};
-pub use copies::copy_item;
-pub use hints::{add_hint, last_of, raise_last, remove_hint, set_last};
-pub use rows::{Rows, reserve_row, set_row};
+pub use replica::ListReplica;

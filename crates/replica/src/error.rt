@@ -66,3 +66,14 @@ impl From<Failed> for CallError {
         CallError::Failed
     }
 }
+
+impl From<AllocError> for RoomError {
+    ghost use Rattle.std.specs.Prelude.{◌≡◌};
+    ghost use Rattle.replica.specs.declared.error.RoomError.TheVariants.{NoMemory};
+
+    ghost from_gives = { λ _ r. r ≡ NoMemory };
+
+    fn from(_: AllocError) -> RoomError {
+        RoomError::NoMemory
+    }
+}

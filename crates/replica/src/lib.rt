@@ -2,6 +2,7 @@
 //! there after each crash, and what one was not answered for is there whole or not at all.
 #![tactic(auto)]
 
+mod entries;
 mod error;
 mod kept;
 mod laws;
@@ -9,6 +10,7 @@ mod merge;
 mod replica;
 
 pub use durable_state::{LastNumber, RowAt};
+pub use entries::{arrive_at, purges_nothing};
 pub use error::{CallError, FinishError, LoadError, RoomError};
 pub use kept::{Kept, Partitions};
 pub use laws::crashes_leave_a_front;

@@ -1,0 +1,145 @@
+-- What is left of what is stored when a change is let go of.
+use Rattle.std.proofs.Common.{◌≡◌, ◌≢◌, ◌↔◌, ◌⊎◌, ℕ, inl, inr, Option, Some, None, List, [], ◌∷◌, ◌++◌, Contains, refl, sym, ◌∙◌, ap, subst}
+use Rattle.std.specs.Prelude.{map}
+use Rattle.std.specs.declared.cmp.Ordering.TheVariants.{Less, Equal}
+use Rattle.std.specs.BTreeMap.{get, IsOrdered}
+use Rattle.std.proofs.lemmas.Cmp.{tied_itself}
+use Rattle.std.proofs.lemmas.List.Elements.{Contains-append_cases, Contains-append_left, Contains-append_right}
+use Rattle.std.proofs.lemmas.Map.Keys.{sorted_head, sorted_tail}
+use Rattle.cs_base.proofs.Members.{contains_nil, contains_here, contains_there, contains_cases, contains_map, contains_from_map}
+use Rattle.changes.specs.declared.Change.{Change}
+use Rattle.changes.specs.declared.Held.{Held}
+use Rattle.changes.specs.declared.Partition.{Partition}
+use Rattle.changes.specs.Contents.{AreApart, Either, IsContent}
+use Rattle.changes.specs.Order.{Outranks, partition_cmp}
+use Rattle.changes.specs.Places.{AreInOrder, stored_cmp}
+use Rattle.changes.proofs.Partitions.{same_or_apart}
+use Rattle.changes.proofs.Places.{stored_total}
+use Rattle.changes.proofs.Sorted.{all_at}
+use Rattle.partition_content.specs.declared.Arrived.{Arrived}
+use Rattle.partition_content.specs.Arrivals.{held_of}
+use Rattle.durable_state.specs.State.{Stored, change_of}
+use Rattle.durable_state.specs.Taking.{LetsGo}
+use Rattle.durable_state.proofs.Deciding.{same_held_or_not}
+use Rattle.list_replica.specs.Removing.{IsAdded, IsWithout}
+use Rattle.list_replica.specs.Staging.{Map}
+use Rattle.list_replica.specs.Stores.{stored, stored_if, stored_at, all_of}
+use Rattle.list_replica.proofs.Looking.{stored_from, stored_to}
+
+-- ---- one partition
+
+pub one_of : (xs : List Arrived) → AreInOrder (map held_of xs) → (a b : Arrived) → Contains xs a → Contains xs b → a.held ≡ b.held → a ≡ b
+one_of [] up a b k l same = absurd (contains_nil a k)
+one_of (x ∷ xs) up a b k l same = elim (contains_cases x xs a k) [
+  | inl is ↦ elim (contains_cases x xs b l) [
+    | inl also ↦ sym is ∙ also
+    | inr later ↦ absurd (no_less x b (below later) (ap held_of is ∙ same))
+  ]
+  | inr behind ↦ elim (contains_cases x xs b l) [
+    | inl also ↦ absurd (no_less x a (below behind) (ap held_of also ∙ sym same))
+    | inr later ↦ one_of xs (sorted_tail stored_cmp x.held (map held_of xs) up) a b behind later same
+  ]
+]
+  where
+    below : {z : Arrived} → Contains xs z → stored_cmp x.held z.held ≡ Less
+    below {z} m = all_at (λ (h : Held). stored_cmp x.held h ≡ Less) (map held_of xs) z.held (sorted_head stored_cmp x.held (map held_of xs) up) (contains_map held_of xs z m)
+    no_less : (u v : Arrived) → stored_cmp u.held v.held ≡ Less → u.held ≡ v.held → ⊥
+    no_less u v less e = let f = sym (subst (λ (h : Held). stored_cmp u.held h ≡ Equal) e (tied_itself stored_total u.held)) ∙ less in cc
+
+same_arrived : (a b : Arrived) → a.held ≡ b.held → a.arrival ≡ b.arrival → a ≡ b
+same_arrived a b held arrival =
+    ap (λ (h : Held). let x : Arrived = record { held = h; arrival = a.arrival } in x) held ∙ ap (λ (n : ℕ). let x : Arrived = record { held = b.held; arrival = n } in x) arrival
+
+-- all that is stored of the partition
+pub record Whole (xs : List Arrived) : Type 0 where
+  pub ordered : AreInOrder (map held_of xs)
+  pub apart : AreApart (map held_of xs)
+
+none_above : (xs : List Arrived) → Whole xs → (a b : Arrived) → Contains xs a → Contains xs b → Outranks a.held b.held → ⊥
+none_above xs w a b k l over = w.apart a.held b.held (contains_map held_of xs a k) (contains_map held_of xs b l) over
+
+-- one more of those that stay
+pub left_more : (xs front old new : List Arrived) (x : Arrived) (held : Held) → Whole xs → ((a : Arrived) → Contains (front ++ x ∷ []) a → Contains xs a) → IsWithout held front old → x.held ≢ held → IsAdded x old new → IsWithout held (front ++ x ∷ []) new
+left_more xs front old new x held w among so_far stays added a = (
+  λ k. elim (added.arrivals a k) [
+    | inl was ↦ let h = (so_far a).0 was in (Contains-append_left front (x ∷ []) a h.0, h.1)
+    | inr (fresh, when) ↦
+        let is : x ≡ a = elim (added.content.within a.held (contains_map held_of new a k)) [ inl old_one ↦ absurd (fresh old_one) | inr e ↦ same_arrived x a e (sym when) ] in
+        (Contains-append_right front (x ∷ []) a (subst (λ (z : Arrived). Contains (x ∷ []) z) is (contains_here x [])), (λ e. stays (ap held_of is ∙ e)))
+  ],
+  λ h.
+      let in_all : Contains xs a = among a h.0 in
+      let last : Contains xs x = among x (Contains-append_right front (x ∷ []) x (contains_here x [])) in
+      let came : Contains (map held_of old) a.held ⊎ (x.held ≡ a.held) = elim (Contains-append_cases front (x ∷ []) a h.0) [
+        | inl before ↦ inl (contains_map held_of old a ((so_far a).1 (before, h.1)))
+        | inr here ↦ elim (contains_cases x [] a here) [ inl e ↦ inr (ap held_of e) | inr none ↦ absurd (contains_nil a none) ]
+      ] in
+      let there : Contains (map held_of new) a.held = elim (added.content.reached a.held came) [
+        | inl k ↦ k
+        | inr (y, k, over) ↦ absurd (elim (added.content.within y k) [
+          | inl old_one ↦
+              let b = contains_from_map held_of old y old_one in
+              none_above xs w b.0 a (among b.0 (Contains-append_left front (x ∷ []) b.0 ((so_far b.0).0 b.1).0)) in_all (subst (λ (z : Held). Outranks z a.held) (sym b.2) over)
+          | inr e ↦ none_above xs w x a last in_all (subst (λ (z : Held). Outranks z a.held) (sym e) over)
+        ])
+      ] in
+      let b = contains_from_map held_of new a.held there in
+      let is : b.0 ≡ a = elim (added.arrivals b.0 b.1) [
+        | inl was ↦ one_of xs w.ordered b.0 a (among b.0 (Contains-append_left front (x ∷ []) b.0 ((so_far b.0).0 was).0)) in_all b.2
+        | inr (fresh, when) ↦ elim came [
+          | inl old_one ↦ absurd (fresh (subst (λ (z : Held). Contains (map held_of old) z) (sym b.2) old_one))
+          | inr e ↦
+              let as_x : b.0 ≡ x = same_arrived b.0 x (b.2 ∙ sym e) when in
+              as_x ∙ one_of xs w.ordered x a last in_all e
+        ]
+      ] in
+      subst (λ (z : Arrived). Contains new z) is b.1,
+)
+
+-- and the one that goes
+pub left_still : (front old : List Arrived) (x : Arrived) (held : Held) → IsWithout held front old → x.held ≡ held → IsWithout held (front ++ x ∷ []) old
+left_still front old x held so_far goes a = (
+  λ k. let h = (so_far a).0 k in (Contains-append_left front (x ∷ []) a h.0, h.1),
+  λ h. elim (Contains-append_cases front (x ∷ []) a h.0) [
+    | inl before ↦ (so_far a).1 (before, h.1)
+    | inr here ↦ elim (contains_cases x [] a here) [ inl e ↦ absurd (h.1 (sym (ap held_of e) ∙ goes)) | inr none ↦ absurd (contains_nil a none) ]
+  ],
+)
+
+pub left_none : (held : Held) → IsWithout held [] []
+left_none held a = (λ k. absurd (contains_nil a k), λ h. h.0)
+
+-- ---- all of them
+
+pub lets_go : (m n : Map) (x : Change) → IsOrdered partition_cmp m → IsOrdered partition_cmp n → IsWithout x.held (stored_at m x.partition) (stored_at n x.partition) → ((q : Partition) → q ≢ x.partition → get partition_cmp n q ≡ get partition_cmp m q)
+    → LetsGo (all_of m.entries) x (all_of n.entries)
+lets_go m n x ordered ordered' without others = record {
+  only = λ y k.
+      let a = stored_to n y ordered' k in
+      elim (same_or_apart y.partition x.partition) [
+        | inl same ↦
+            let h = (without a.0).0 (subst (λ (q : Partition). Contains (stored_at n q) a.0) same a.1) in (
+              subst (λ (v : Stored). Contains (all_of m.entries) v) a.2 (stored_from m y.partition a.0 (subst (λ (q : Partition). Contains (stored_at m q) a.0) (sym same) h.0)),
+              λ e. h.1 (ap (λ (v : Stored). v.held) a.2 ∙ ap (λ (c : Change). c.held) e),
+            )
+        | inr other ↦ (
+          subst (λ (v : Stored). Contains (all_of m.entries) v) a.2 (stored_from m y.partition a.0 (subst (λ (l : List Arrived). Contains l a.0) (ap stored_if (others y.partition other)) a.1)),
+          λ e. other (ap (λ (c : Change). c.partition) e),
+        )
+      ];
+  others = λ y k.
+      let a = stored_to m y ordered k in
+      elim (same_or_apart y.partition x.partition) [
+        | inl same ↦ elim (same_held_or_not y.held x.held) [
+          | inl held ↦ inl (same_made y x same held)
+          | inr differs ↦
+              inr (subst (λ (v : Stored). Contains (all_of n.entries) v) a.2 (stored_from n y.partition a.0 (subst (λ (q : Partition). Contains (stored_at n q) a.0) (sym same)
+              ((without a.0).1 (subst (λ (q : Partition). Contains (stored_at m q) a.0) same a.1, λ e. differs (sym (ap (λ (v : Stored). v.held) a.2) ∙ e))))))
+        ]
+        | inr other ↦ inr (subst (λ (v : Stored). Contains (all_of n.entries) v) a.2 (stored_from n y.partition a.0 (subst (λ (l : List Arrived). Contains l a.0) (sym (ap stored_if (others y.partition other))) a.1)))
+      ];
+}
+  where
+    same_made : (y : Stored) (c : Change) → y.partition ≡ c.partition → y.held ≡ c.held → change_of y ≡ c
+    same_made y c p h =
+        ap (λ (q : Partition). let z : Change = record { partition = q; held = y.held } in z) p ∙ ap (λ (v : Held). let z : Change = record { partition = c.partition; held = v } in z) h

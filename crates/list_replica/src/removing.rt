@@ -1,0 +1,63 @@
+//! A change that is let go of: what else is held of its partition is put together anew.
+
+ghost use Rattle.std.specs.Prelude.{◌≡◌, IfOk, OnOk};
+ghost use Rattle.std.specs.BTreeMap.{IsOrdered};
+ghost use Rattle.changes.specs.Order.{partition_cmp};
+ghost use Rattle.durable_state.specs.Taking.{LetsGo};
+ghost use Rattle.list_replica.specs.Removing.{IsAdded, IsWithout};
+ghost use Rattle.list_replica.specs.Stores.{all_of};
+
+use crate::contents::Contents;
+use cell_merge::Content;
+use changes::{Change, Held};
+use partition_content::{Arrived, PartitionContent};
+use std::alloc::{AllocError, Global};
+
+/// Puts a change in at the time at which it came.
+fn add(rest: &mut PartitionContent, alloc: Global, arrived: Arrived) -> Result<(), AllocError>
+    ensures { OnOk result (IsAdded arrived rest.old.stored rest.new.stored) }
+{
+    let mut changes = Vec::new(alloc);
+    changes.push(arrived.held)?;
+    let incoming = Content::from_changes(alloc, changes)?;
+    rest.reserve(&incoming)?;
+    rest.apply(incoming, arrived.arrival);
+    Ok(())
+}
+
+/// The content of a partition without this change.
+fn without(
+    content: &PartitionContent,
+    alloc: Global,
+    held: &Held,
+) -> Result<PartitionContent, AllocError>
+    ensures { IfOk result (λ rest. IsWithout held.now content.now.stored rest.stored) }
+{
+    let _ = content.encoded_length();
+    let mut rest = PartitionContent::new(alloc);
+    for arrived in content.stored(alloc)? {
+        if arrived.held != *held {
+            add(&mut rest, alloc, arrived)?;
+        }
+    }
+    Ok(rest)
+}
+
+fn remove(content: &mut PartitionContent, alloc: Global, held: &Held) -> Result<(), AllocError>
+    ensures { OnOk result (IsWithout held.now content.old.stored content.new.stored) }
+{
+    *content = without(content, alloc, held)?;
+    Ok(())
+}
+
+/// Lets go of a change of a partition, if it is held.
+pub fn let_go(contents: &mut Contents, alloc: Global, change: &Change) -> Result<(), AllocError>
+    requires { IsOrdered partition_cmp contents.old }
+    ensures gone { OnOk result (LetsGo (all_of contents.old.entries) change.now (all_of contents.new.entries)) }
+    ensures ordered { OnOk result (IsOrdered partition_cmp contents.new) }
+{
+    match contents.get_mut(&change.partition) {
+        Some(content) => remove(content, alloc, &change.held),
+        None => Ok(()),
+    }
+}
