@@ -142,6 +142,6 @@ same_after time (m ∷ ms) d d' a b shown one takes arrive commits x =
 
 pub shown_after : (old new : Map) (time : ℕ) (d d' : Durable) (items : List LogItem) (staged : List Staged) → IsOrdered partition_cmp old → IsOrdered partition_cmp new → Shown old d → HasOneArrival d.content → PurgeNothing items
     → ArriveAllAt time items → IsStaging items staged → AllCome time old new staged → Commits items d d' → Shown new d'
-shown_after old new time d d' items staged ordered ordered' shown one no all staging come commits x =
+shown_after old new time d d' items staged ordered ordered' shown one calm all staging come commits x =
     same_after time (mutations items) d d' (all_of old.entries) (all_of new.entries) shown (λ y z k l same. one y z ((shown y).0 k) ((shown z).0 l) same)
-    (takes_all old new time items staged ordered ordered' staging come) (arrive_all old new time staged ordered ordered' come) (projected time items d d' no all commits) x
+    (takes_all old new time items staged ordered ordered' staging come) (arrive_all old new time staged ordered ordered' come) (projected time items d d' calm all commits) x

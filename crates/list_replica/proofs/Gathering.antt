@@ -1,5 +1,5 @@
 -- Changes staged by partition.
-use Rattle.std.proofs.Common.{◌≡◌, ◌≢◌, ◌↔◌, ◌⊎◌, ℕ, ◌+◌, ◌<◌, length, get_or, take, drop, take-append-drop, append-nil, inl, inr, Option, Some, None, List, [], ◌∷◌, ◌++◌, Contains, refl, sym, ◌∙◌, ap, subst, append_assoc}
+use Rattle.std.proofs.Common.{◌≡◌, ◌≢◌, ◌↔◌, ◌⊎◌, ℕ, ◌+◌, ◌^◌, ◌≤◌, ◌<◌, length, get_or, take, drop, take-append-drop, append-nil, inl, inr, Option, Some, None, List, [], ◌∷◌, ◌++◌, Contains, refl, sym, ◌∙◌, ap, subst, append_assoc}
 use Rattle.std.specs.Prelude.{map, IsSomeAnd}
 use Rattle.std.specs.BTreeMap.{get}
 use Rattle.std.proofs.lemmas.List.{drop_more}
@@ -11,11 +11,13 @@ use Rattle.changes.specs.declared.Partition.{Partition}
 use Rattle.changes.specs.Contents.{IsContent, IsMergeOf}
 use Rattle.changes.specs.Order.{partition_cmp}
 use Rattle.partition_content.specs.Arrivals.{held_of, ComeAt}
-use Rattle.partition_content.specs.Partition.{Partition as Content, IsReadyFor}
+use Rattle.partition_content.specs.Partition.{Partition as Content, changes_in, IsReadyFor}
+use Rattle.partition_content.specs.Lengths.{IsMergedLength}
 use Rattle.row_change.specs.declared.entry.LogItem.{LogItem}
+use Rattle.row_change.specs.declared.entry.LogItem.TheVariants.{Data, Paxos, HintAdd, HintGone, Ceiling, Mark, Purge}
 use Rattle.durable_state.specs.Taking.{IsTouched, InOne}
 use Rattle.list_replica.specs.declared.staging.Staged.{Staged}
-use Rattle.list_replica.specs.Staging.{Map, mutation_of, mutations, Brings, IsStagedAt, AreOnce, Stages, StagesAt, AreReady, held_at, Comes, AllCome}
+use Rattle.list_replica.specs.Staging.{Map, mutation_of, mutations, Brings, IsStagedAt, AreOnce, Stages, StagesAt, AreReady, held_at, IsWithin, IsPast, StaysWithin, GrowsPast, AllStayWithin, IsFirstPast, Comes, AllCome}
 use Rattle.list_replica.specs.Stores.{stored_if, stored_at, IsReadyAt}
 
 -- ---- what items bring
@@ -34,6 +36,18 @@ brought_more items item p xs ys so_far more x = (
   λ h. (more x).1 (elim ((filter_map_more mutation_of items item h.0).0 h.1) [
     | inl was ↦ inl ((so_far x).1 (h.0, was, h.2, h.3))
     | inr e ↦ inr (h.0, e, h.2, h.3)
+  ]),
+)
+
+-- all that an item brings is there behind the others
+pub brings_all : (item : LogItem) (m : Mutation) (p : Partition) (old new : List Held) → Some m ≡ mutation_of item → m.partition ≡ p → new ≡ old ++ m.changes → (x : Held) → Contains new x ↔ (Contains old x ⊎ Brings item p x)
+brings_all item m p old new is at all x = (
+  λ k. elim (Contains-append_cases old m.changes x (subst (λ (l : List Held). Contains l x) all k)) [ inl was ↦ inl was | inr here ↦ inr (m, sym is, at, here) ],
+  λ u. subst (λ (l : List Held). Contains l x) (sym all) (elim u [
+    | inl was ↦ Contains-append_left old m.changes x was
+    | inr (n, e, of, k) ↦
+        let one : n ≡ m = cc in
+        Contains-append_right old m.changes x (subst (λ (v : Mutation). Contains v.changes x) one k)
   ]),
 )
 
@@ -71,7 +85,7 @@ stages_still items front item staged h none = record {
   once = h.once;
   content = h.content;
   within = h.within;
-  all = λ p t. elim (touched_cases front item p t) [ inl was ↦ h.all p was | inr (m, e, at) ↦ absurd (cc (none, e)) ];
+  all = λ p t. elim (touched_cases front item p t) [ inl was ↦ h.all p was | inr (m, e, at) ↦ absurd (let f = sym none ∙ e in cc) ];
 }
 
 -- and one that brings changes
@@ -118,9 +132,9 @@ stages_more items front item m staged staged' h there is (inr (fresh, s, pushed,
 
 pub apart_once : (front : List Staged) (s : Staged) (rest : List Staged) → AreOnce (front ++ s ∷ rest) → (t : Staged) → Contains front t → t.partition ≢ s.partition
 apart_once [] s rest once t k = absurd (contains_nil t k)
-apart_once (r ∷ front) s rest once t k e = elim (contains_cases r front t k) [
-  | inl is ↦ once.0 s (Contains-append_right front (s ∷ rest) s (contains_here s rest)) (sym e ∙ sym (ap (λ (u : Staged). u.partition) is))
-  | inr later ↦ apart_once front s rest once.1 t later e
+apart_once (r ∷ front) s rest once t k = elim (contains_cases r front t k) [
+  | inl is ↦ λ e. once.0 s (Contains-append_right front (s ∷ rest) s (contains_here s rest)) (sym e ∙ sym (ap (λ (u : Staged). u.partition) is))
+  | inr later ↦ apart_once front s rest once.1 t later
 ]
 
 pub apart_behind : (front : List Staged) (s : Staged) (rest : List Staged) → AreOnce (front ++ s ∷ rest) → (t : Staged) → Contains rest t → t.partition ≢ s.partition
@@ -144,6 +158,70 @@ ready_more old new front s rest once ready here others t k = elim (Contains-appe
 pub ready_rest : (old new : Map) (front : List Staged) (s : Staged) (rest : List Staged) → AreOnce (front ++ s ∷ rest) → AreReady old (s ∷ rest) → ((q : Partition) → q ≢ s.partition → get partition_cmp new q ≡ get partition_cmp old q)
     → AreReady new rest
 ready_rest old new front s rest once ready others t k = ready_still old new t (others t.partition (apart_behind front s rest once t k)) (ready t (contains_there s rest t k))
+
+-- ---- lengths
+
+pub within_found : (contents : Map) (s : Staged) (content : Content) (n : ℕ) → Some content ≡ get partition_cmp contents s.partition → IsMergedLength (changes_in content) s.changes n → n ≤ 2 ^ 24 → IsWithin contents s
+within_found contents s content n at long le merged merge order =
+    subst (λ (k : ℕ). k ≤ 2 ^ 24) (long merged (subst (λ (o : Option Content). IsMergeOf merged (map held_of (stored_if o)) s.changes) (sym at) merge) order) le
+
+pub past_found : (contents : Map) (s : Staged) (content : Content) (n : ℕ) → Some content ≡ get partition_cmp contents s.partition → IsMergedLength (changes_in content) s.changes n → 2 ^ 24 < n → IsPast contents s
+past_found contents s content n at long past merged merge order =
+    subst (λ (k : ℕ). 2 ^ 24 < k) (long merged (subst (λ (o : Option Content). IsMergeOf merged (map held_of (stored_if o)) s.changes) (sym at) merge) order) past
+
+pub ready_found : (contents : Map) (s : Staged) (content : Content) → Some content ≡ get partition_cmp contents s.partition → IsReadyAt contents s.partition s.changes → IsReadyFor content s.changes
+ready_found contents s content at ready = subst (λ (o : Option Content). IsSomeAnd o (λ c. IsReadyFor c s.changes)) (sym at) ready
+
+pub not_ready : (contents : Map) (s : Staged) → None ≡ get partition_cmp contents s.partition → IsReadyAt contents s.partition s.changes → ⊥
+not_ready contents s at ready = subst (λ (o : Option Content). IsSomeAnd o (λ c. IsReadyFor c s.changes)) (sym at) ready
+
+-- ---- the partitions of the items so far
+
+pub within_none : (contents : Map) (staged : List Staged) → AllStayWithin contents staged []
+within_none contents staged p t = absurd (contains_nil t.0 t.1)
+
+pub within_still : (contents : Map) (staged : List Staged) (front : List LogItem) (item : LogItem) → AllStayWithin contents staged front → mutation_of item ≡ None → AllStayWithin contents staged (front ++ item ∷ [])
+within_still contents staged front item so_far none p t = elim (touched_cases front item p t) [
+  | inl was ↦ so_far p was
+  | inr (m, e, at) ↦ absurd (let f = sym none ∙ e in cc)
+]
+
+pub within_more : (contents : Map) (staged : List Staged) (front : List LogItem) (item : LogItem) (m : Mutation) → AllStayWithin contents staged front → mutation_of item ≡ Some m → StaysWithin contents staged m.partition → AllStayWithin contents staged (front ++ item ∷ [])
+within_more contents staged front item m so_far is within p t = elim (touched_cases front item p t) [
+  | inl was ↦ so_far p was
+  | inr (n, e, at) ↦
+      let one : m ≡ n = cc in
+      subst (λ (q : Partition). StaysWithin contents staged q) (ap (λ (v : Mutation). v.partition) one ∙ at) within
+]
+
+-- an item that brings a mutation is one of data
+pub is_data : (item : LogItem) (m : Mutation) → mutation_of item ≡ Some m → (arrival : ℕ) × (item ≡ Data arrival m)
+is_data (Data arrival n) m is = (arrival, ap (λ (v : Mutation). Data arrival v) (let e : n ≡ m = cc in e))
+is_data (Paxos p row) m is = cc
+is_data (HintAdd h) m is = cc
+is_data (HintGone peer number) m is = cc
+is_data (Ceiling time) m is = cc
+is_data (Mark mark) m is = cc
+is_data (Purge x) m is = cc
+
+pub first_one : (contents : Map) (staged : List Staged) (items front : List LogItem) (item : LogItem) (rest : List LogItem) (m : Mutation) → front ++ item ∷ rest ≡ items → mutation_of item ≡ Some m → AllStayWithin contents staged front
+    → GrowsPast contents staged m.partition → IsFirstPast contents staged items m.partition
+first_one contents staged items front item rest m split is within past =
+    let found = is_data item m is in
+    record {
+      front = front;
+      arrival = found.0;
+      mutation = m;
+      rest = rest;
+      split = sym split ∙ ap (λ (i : LogItem). front ++ i ∷ rest) found.1;
+      of = refl;
+      past = past;
+      first = within;
+    }
+
+-- what an item of the entry touches is staged
+pub staged_for : (items : List LogItem) (staged : List Staged) (item : LogItem) (m : Mutation) → Stages items items staged → Contains items item → mutation_of item ≡ Some m → IsStagedAt staged m.partition
+staged_for items staged item m h there is = h.all m.partition (m, contains_filter_map mutation_of items item m there is, refl)
 
 -- ---- changes come
 

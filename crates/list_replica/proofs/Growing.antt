@@ -75,13 +75,13 @@ all_small contents d items some staged b within p of = small contents d items st
 
 pub stay_small : (contents : Map) (d : Durable) (items : List LogItem) (staged : List Staged) → IsOrdered partition_cmp contents → Shown contents d → PurgeNothing items → IsStaging items staged
     → AllStayWithin contents staged items → AllStaySmall items items d
-stay_small contents d items staged ordered shown no staging within =
-    all_small contents d items items staged (record { ordered = ordered; shown = shown; no_purges = no; staging = staging }) within
+stay_small contents d items staged ordered shown calm staging within =
+    all_small contents d items items staged (record { ordered = ordered; shown = shown; no_purges = calm; staging = staging }) within
 
 pub first_too_large : (contents : Map) (d : Durable) (items : List LogItem) (staged : List Staged) (p : Partition) → IsOrdered partition_cmp contents → Shown contents d → PurgeNothing items → IsStaging items staged
     → IsFirstPast contents staged items p → IsFirstTooLarge items d p
-first_too_large contents d items staged p ordered shown no staging f =
-    let b : Before contents d items staged = record { ordered = ordered; shown = shown; no_purges = no; staging = staging } in
+first_too_large contents d items staged p ordered shown calm staging f =
+    let b : Before contents d items staged = record { ordered = ordered; shown = shown; no_purges = calm; staging = staging } in
     record {
       front = f.front;
       arrival = f.arrival;

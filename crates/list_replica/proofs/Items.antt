@@ -34,14 +34,14 @@ begun : (ms : List Mutation) (a b d : Durable) → b.content ≡ a.content → T
 begun ms a b d same h = subst (λ (l : List Stored). TakesEach ms (changes_of l) (changes_of d.content)) same h
 
 pub each_taken : (items : List LogItem) (d d' : Durable) → PurgeNothing items → Commits items d d' → TakesEach (mutations items) (changes_of d.content) (changes_of d'.content)
-each_taken [] d d' no is = ap (λ (e : Durable). changes_of e.content) is
-each_taken (Data t m ∷ items) d d' no (mid, takes, more) = (changes_of mid.content, takes.0, each_taken items mid d' no.1 more)
-each_taken (Paxos p row ∷ items) d d' no (mid, takes, more) = begun (mutations items) d mid d' (same_content _ mid takes.1) (each_taken items mid d' no.1 more)
-each_taken (HintAdd h ∷ items) d d' no (mid, takes, more) = begun (mutations items) d mid d' (same_content _ mid takes) (each_taken items mid d' no.1 more)
-each_taken (HintGone peer number ∷ items) d d' no (mid, takes, more) = begun (mutations items) d mid d' (same_content _ mid takes) (each_taken items mid d' no.1 more)
-each_taken (Ceiling time ∷ items) d d' no (mid, takes, more) = begun (mutations items) d mid d' (same_content _ mid takes) (each_taken items mid d' no.1 more)
-each_taken (Mark m ∷ items) d d' no (mid, takes, more) = begun (mutations items) d mid d' (same_content _ mid takes) (each_taken items mid d' no.1 more)
-each_taken (Purge x ∷ items) d d' no (mid, takes, more) = absurd no.0
+each_taken [] d d' calm is = ap (λ (e : Durable). changes_of e.content) is
+each_taken (Data t m ∷ items) d d' calm (mid, takes, more) = (changes_of mid.content, takes.0, each_taken items mid d' calm.1 more)
+each_taken (Paxos p row ∷ items) d d' calm (mid, takes, more) = begun (mutations items) d mid d' (same_content _ mid takes.1) (each_taken items mid d' calm.1 more)
+each_taken (HintAdd h ∷ items) d d' calm (mid, takes, more) = begun (mutations items) d mid d' (same_content _ mid takes) (each_taken items mid d' calm.1 more)
+each_taken (HintGone peer number ∷ items) d d' calm (mid, takes, more) = begun (mutations items) d mid d' (same_content _ mid takes) (each_taken items mid d' calm.1 more)
+each_taken (Ceiling time ∷ items) d d' calm (mid, takes, more) = begun (mutations items) d mid d' (same_content _ mid takes) (each_taken items mid d' calm.1 more)
+each_taken (Mark m ∷ items) d d' calm (mid, takes, more) = begun (mutations items) d mid d' (same_content _ mid takes) (each_taken items mid d' calm.1 more)
+each_taken (Purge x ∷ items) d d' calm (mid, takes, more) = absurd calm.0
 
 -- ---- with their time, and nothing else
 
@@ -58,18 +58,18 @@ passed time ms d mid d' same h =
 
 pub projected : (time : ℕ) (items : List LogItem) (d d' : Durable) → PurgeNothing items → ArriveAllAt time items → Commits items d d'
     → Commits (map (data_item time) (mutations items)) d (record d { content = d'.content })
-projected time [] d d' no all is = ap (λ (e : Durable). let f : Durable = record d { content = e.content } in f) is
-projected time (Data t m ∷ items) d d' no all (mid, takes, more) = (
+projected time [] d d' calm all is = ap (λ (e : Durable). let f : Durable = record d { content = e.content } in f) is
+projected time (Data t m ∷ items) d d' calm all (mid, takes, more) = (
   record d { content = mid.content },
   (takes.0, subst (λ (n : ℕ). ArriveAt n d.content mid.content) all.0 takes.1, refl),
-  commits_data time (mutations items) mid (record mid { content = d'.content }) d (projected time items mid d' no.1 all.1 more),
+  commits_data time (mutations items) mid (record mid { content = d'.content }) d (projected time items mid d' calm.1 all.1 more),
 )
-projected time (Paxos p row ∷ items) d d' no all (mid, takes, more) = passed time (mutations items) d mid d' (same_content _ mid takes.1) (projected time items mid d' no.1 all.1 more)
-projected time (HintAdd h ∷ items) d d' no all (mid, takes, more) = passed time (mutations items) d mid d' (same_content _ mid takes) (projected time items mid d' no.1 all.1 more)
-projected time (HintGone peer number ∷ items) d d' no all (mid, takes, more) = passed time (mutations items) d mid d' (same_content _ mid takes) (projected time items mid d' no.1 all.1 more)
-projected time (Ceiling at ∷ items) d d' no all (mid, takes, more) = passed time (mutations items) d mid d' (same_content _ mid takes) (projected time items mid d' no.1 all.1 more)
-projected time (Mark m ∷ items) d d' no all (mid, takes, more) = passed time (mutations items) d mid d' (same_content _ mid takes) (projected time items mid d' no.1 all.1 more)
-projected time (Purge x ∷ items) d d' no all (mid, takes, more) = absurd no.0
+projected time (Paxos p row ∷ items) d d' calm all (mid, takes, more) = passed time (mutations items) d mid d' (same_content _ mid takes.1) (projected time items mid d' calm.1 all.1 more)
+projected time (HintAdd h ∷ items) d d' calm all (mid, takes, more) = passed time (mutations items) d mid d' (same_content _ mid takes) (projected time items mid d' calm.1 all.1 more)
+projected time (HintGone peer number ∷ items) d d' calm all (mid, takes, more) = passed time (mutations items) d mid d' (same_content _ mid takes) (projected time items mid d' calm.1 all.1 more)
+projected time (Ceiling at ∷ items) d d' calm all (mid, takes, more) = passed time (mutations items) d mid d' (same_content _ mid takes) (projected time items mid d' calm.1 all.1 more)
+projected time (Mark m ∷ items) d d' calm all (mid, takes, more) = passed time (mutations items) d mid d' (same_content _ mid takes) (projected time items mid d' calm.1 all.1 more)
+projected time (Purge x ∷ items) d d' calm all (mid, takes, more) = absurd calm.0
 
 -- ---- which partitions are touched
 
@@ -83,7 +83,7 @@ untouched [] a c is p x n = (λ h. subst (λ (l : List Change). Holds l p x) is 
 untouched (m ∷ ms) a c (b, first, rest) p x n =
     let more = untouched ms b c rest p x (λ t. n (t.0, contains_there m ms t.0 t.1, t.2)) in
     let here = first.others p x (λ e. n (m, contains_here m ms, sym e)) in
-    (λ h. here.0 (more.0 h), λ h. here.1 (more.1 h))
+    (λ h. here.0 (more.0 h), λ h. more.1 (here.1 h))
 
 -- the same changes, as another list
 content_as : (kept other : List Held) (S : Held → Type 0) → ((x : Held) → Contains kept x ↔ Contains other x) → IsContent other S → IsContent kept S

@@ -111,6 +111,10 @@ left_none held a = (λ k. absurd (contains_nil a k), λ h. h.0)
 
 -- ---- all of them
 
+same_made : (y : Stored) (c : Change) → y.partition ≡ c.partition → y.held ≡ c.held → change_of y ≡ c
+same_made y c p h =
+    ap (λ (q : Partition). let z : Change = record { partition = q; held = y.held } in z) p ∙ ap (λ (v : Held). let z : Change = record { partition = c.partition; held = v } in z) h
+
 pub lets_go : (m n : Map) (x : Change) → IsOrdered partition_cmp m → IsOrdered partition_cmp n → IsWithout x.held (stored_at m x.partition) (stored_at n x.partition) → ((q : Partition) → q ≢ x.partition → get partition_cmp n q ≡ get partition_cmp m q)
     → LetsGo (all_of m.entries) x (all_of n.entries)
 lets_go m n x ordered ordered' without others = record {
@@ -139,7 +143,3 @@ lets_go m n x ordered ordered' without others = record {
         | inr other ↦ inr (subst (λ (v : Stored). Contains (all_of n.entries) v) a.2 (stored_from n y.partition a.0 (subst (λ (l : List Arrived). Contains l a.0) (sym (ap stored_if (others y.partition other))) a.1)))
       ];
 }
-  where
-    same_made : (y : Stored) (c : Change) → y.partition ≡ c.partition → y.held ≡ c.held → change_of y ≡ c
-    same_made y c p h =
-        ap (λ (q : Partition). let z : Change = record { partition = q; held = y.held } in z) p ∙ ap (λ (v : Held). let z : Change = record { partition = c.partition; held = v } in z) h

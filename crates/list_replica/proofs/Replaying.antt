@@ -8,11 +8,15 @@ use Rattle.std.specs.Ordering.{nat_cmp}
 use Rattle.std.proofs.lemmas.Bool.{eq-eqb}
 use Rattle.cs_base.proofs.Members.{contains_here, contains_there, contains_cases, contains_push}
 use Rattle.changes.specs.declared.Change.{Change}
+use Rattle.changes.specs.declared.Held.{Held}
 use Rattle.changes.specs.declared.Mutation.{Mutation}
 use Rattle.changes.specs.declared.Partition.{Partition}
+use Rattle.changes.specs.Contents.{Either, IsContent}
 use Rattle.changes.specs.Order.{partition_cmp}
 use Rattle.changes.proofs.Partitions.{same_or_apart}
+use Rattle.change_laws.proofs.Contents.{IsContent-same, IsContent-onto, Either_swap}
 use Rattle.row_change.specs.declared.entry.Hint.{Hint}
+use Rattle.row_change.specs.declared.entry.LogEntry.{LogEntry}
 use Rattle.row_change.specs.declared.entry.LogItem.{LogItem}
 use Rattle.row_change.specs.declared.entry.LogItem.TheVariants.{Data, Paxos, HintAdd, HintGone, Ceiling, Purge}
 use Rattle.row_change.specs.declared.entry.LogItem.TheVariants as item
@@ -20,21 +24,23 @@ use Rattle.row_change.specs.declared.entry.Mark.{Mark}
 use Rattle.row_change.specs.declared.entry.PaxosRow.{PaxosRow}
 use Rattle.durable_state.specs.declared.parts.LastNumber.{LastNumber}
 use Rattle.durable_state.specs.declared.parts.RowAt.{RowAt}
-use Rattle.durable_state.specs.State.{Stored, Durable, IsSameKept, row_at, hints_of, last_of, changes_of, formatted}
-use Rattle.durable_state.specs.Taking.{HasOneArrival, LetsGo}
+use Rattle.durable_state.specs.State.{Stored, Durable, IsSameKept, row_at, hints_of, last_of, changes_of, formatted, Holds}
+use Rattle.durable_state.specs.Taking.{HasOneArrival, LetsGo, TakesIn, ArriveAt}
 use Rattle.durable_state.specs.Keeping.{TakesItem, Commits, SetsRow, with_last, with_given, without_hint}
 use Rattle.durable_state.proofs.Entries.{commits_parts}
 use Rattle.durable_state.proofs.Kept.{kept_is_one, last_filter}
 use Rattle.replica.specs.declared.kept.Kept.{Kept}
 use Rattle.replica.specs.Kept.{IsKeptOf, IsInOrder, by_partition, by_peer}
+use Rattle.list_replica.specs.declared.memtable.Memtable.{Memtable}
 use Rattle.list_replica.specs.declared.replay.Replay.{Replay}
 use Rattle.list_replica.specs.Keeping.{Entered, entries_of, kept_by}
+use Rattle.list_replica.specs.Memtables.{kept_in, IsSound}
 use Rattle.list_replica.specs.Numbers.{number_at, SetsNumber}
-use Rattle.list_replica.specs.Replays.{Shows, ShowsItem, ShowsItems}
+use Rattle.list_replica.specs.Replays.{Shows, ShowsItem, ShowsItems, replayed}
 use Rattle.list_replica.specs.Rows.{row_entry, number_entry}
 use Rattle.list_replica.specs.Staging.{Map}
 use Rattle.list_replica.specs.Stores.{all_of, TakesData}
-use Rattle.list_replica.proofs.Keeping.{kept_more, entries_push}
+use Rattle.list_replica.proofs.Keeping.{kept_more, kept_none, entries_push}
 use Rattle.list_replica.proofs.RowLooking.{row_looked, rows_in_order, number_looked, numbers_in_order}
 
 marks_as : (r : Replay) (d d' : Durable) → d'.marks ≡ d.marks → ((m : Mark) → Contains r.marks.items m ↔ Contains d.marks m) → (m : Mark) → Contains r.marks.items m ↔ Contains d'.marks m
@@ -233,3 +239,52 @@ in_order r kept f h rows numbers = record {
   rows = subst (λ (l : List RowAt). IsStrictlySortedBy by_partition l) (sym f) (rows_in_order r.rows.entries rows);
   numbers = subst (λ (l : List LastNumber). IsStrictlySortedBy by_peer l) (sym h) (numbers_in_order r.numbers.entries numbers);
 }
+
+-- ---- a load
+
+pub begins : (r : Replay) → Shows r formatted → replayed r ≡ [] → Shows r (kept_by (replayed r))
+begins r s none = subst (λ (d : Durable). Shows r d) (sym (ap kept_by none ∙ kept_none)) s
+
+pub goes_on : (r q : Replay) (entry : LogEntry) → Shows r (kept_by (replayed r)) → ShowsItems entry.items r q → replayed q ≡ replayed r ++ (entry, tt) ∷ [] → Shows q (kept_by (replayed q))
+goes_on r q entry s more e = subst (λ (es : List Entered). Shows q (kept_by es)) (sym e) (entry_shows r q (replayed r) (entry, tt) s more)
+
+pub entries_on : (old new : List Entered) (entry : LogEntry) (front : List LogEntry) → entries_of old ≡ front → new ≡ old ++ (entry, tt) ∷ [] → entries_of new ≡ front ++ entry ∷ []
+entries_on old new entry front so_far e = ap entries_of e ∙ entries_push old (entry, tt) ∙ ap (λ (l : List LogEntry). l ++ entry ∷ []) so_far
+
+-- where only the entries are others
+pub items_from : (r r' q : Replay) (items : List LogItem) → r'.contents ≡ r.contents → r'.ceiling ≡ r.ceiling → r'.rows ≡ r.rows → r'.hints ≡ r.hints → r'.numbers ≡ r.numbers → r'.marks ≡ r.marks → ShowsItems items r' q → ShowsItems items r q
+items_from r r' q items e f g h i j more d d' s commits = more d d' (shows_as r r' d e f g h i j s) commits
+
+pub sound_from : (r : Replay) (m : Memtable) → m.contents ≡ r.contents → m.committed.items ≡ replayed r → Shows r (kept_by (replayed r)) → IsSound m
+sound_from r m e f s = record {
+  ordered = subst (λ (c : Map). IsOrdered partition_cmp c) (sym e) s.ordered;
+  content = λ x.
+      subst (λ (es : List Entered). Contains (all_of m.contents.entries) x ↔ Contains (kept_by es).content x) (sym f)
+      (subst (λ (c : Map). Contains (all_of c.entries) x ↔ Contains (kept_by (replayed r)).content x) (sym e) (s.content x));
+}
+
+pub kept_from_all : (r : Replay) (m : Memtable) (kept : Kept) → m.committed.items ≡ replayed r → Shows r (kept_by (replayed r)) → ((d : Durable) → Shows r d → IsKeptOf d kept) → IsKeptOf (kept_in m) kept
+kept_from_all r m kept f s all = subst (λ (es : List Entered). IsKeptOf (kept_by es) kept) (sym f) (all (kept_by (replayed r)) s)
+
+-- ---- data
+
+pub takes_data : (m n : Map) (time : ℕ) (p : Partition) (changes incoming : List Held) → IsContent incoming (Contains changes)
+    → TakesIn (changes_of (all_of m.entries)) p incoming (changes_of (all_of n.entries)) → TakesIn (changes_of (all_of m.entries)) p changes (changes_of (all_of n.entries))
+takes_data m n time p changes incoming content takes =
+    let was : Held → Type 0 = Holds (changes_of (all_of m.entries)) p in
+    let swapped : IsContent takes.kept (Either (Contains incoming) was) = IsContent-same takes.kept (Either was (Contains incoming)) (Either (Contains incoming) was) (Either_swap was (Contains incoming)) (Either_swap (Contains incoming) was) takes.merged in
+    let onto : IsContent takes.kept (Either (Contains changes) was) = IsContent-onto incoming takes.kept (Contains changes) was content swapped in
+    record {
+      kept = takes.kept;
+      held = takes.held;
+      merged = IsContent-same takes.kept (Either (Contains changes) was) (Either was (Contains changes)) (Either_swap (Contains changes) was) (Either_swap was (Contains changes)) onto;
+      others = takes.others;
+    }
+
+pub data_taken : (old mid new : Map) (time : ℕ) (m : Mutation) (incoming changes : List Held) → all_of mid.entries ≡ all_of old.entries → changes ≡ m.changes → IsContent incoming (Contains changes)
+    → TakesIn (changes_of (all_of mid.entries)) m.partition incoming (changes_of (all_of new.entries)) → ArriveAt time (all_of mid.entries) (all_of new.entries) → TakesData time m old new
+data_taken old mid new time m incoming changes same is content takes arrive = (
+  subst (λ (l : List Stored). TakesIn (changes_of l) m.partition m.changes (changes_of (all_of new.entries))) same
+      (subst (λ (l : List Held). TakesIn (changes_of (all_of mid.entries)) m.partition l (changes_of (all_of new.entries))) is (takes_data mid new time m.partition changes incoming content takes)),
+  subst (λ (l : List Stored). ArriveAt time l (all_of new.entries)) same arrive,
+)

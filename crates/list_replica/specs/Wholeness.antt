@@ -17,14 +17,14 @@ pub record IsOnDisk (disk : Disk) (gate : ℕ) (entries : List LogEntry) : Type 
   pub settled : IsSettled 0 disk
 
 -- the log of file 0 has the entries that made the contents
-pub record IsWhole (honest : Type 0) (disk : Disk) (log : LogPlace) (table : Memtable) (added : Option ℕ) : Type 0 where
+pub record IsWhole (honest : Type 0) (disk : Disk) (log : LogPlace) (table : Memtable) (since : Option ℕ) : Type 0 where
   pub file : log.place.file ≡ 0
   pub on_disk : honest → IsOnDisk disk log.place.gate (entries_of (committed table))
   pub sound : IsSound table
-  pub added : IfSome added (λ n. n ≤ log.place.gate)
+  pub added : IfSome since (λ n. n ≤ log.place.gate)
 
 -- there is room for the entry, in the log and in the contents
-pub record IsGranted (log : LogPlace) (reserved : ℕ → ℕ) (table : Memtable) (entry : LogEntry) : Type 0 where
-  pub log : IsReady entry log reserved
+pub record IsGranted (place : LogPlace) (reserved : ℕ → ℕ) (table : Memtable) (entry : LogEntry) : Type 0 where
+  pub log : IsReady entry place reserved
   pub staged : HasStaged table entry.items
   pub no_purges : PurgeNothing entry.items

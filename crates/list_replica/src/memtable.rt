@@ -28,7 +28,7 @@ impl Memtable {
     /// These contents, with nothing staged.
     pub fn new(alloc: Global, contents: Contents, committed: Log<LogEntry, ()>) -> Memtable
         ensures contents { result.contents ≡ contents }
-        ensures committed { result.committed ≡ committed }
+        ensures committed { result.committed.items ≡ committed.items }
     {
         Memtable {
             contents,

@@ -1,10 +1,10 @@
 //! A change that is let go of: what else is held of its partition is put together anew.
 
-ghost use Rattle.std.specs.Prelude.{◌≡◌, IfOk, OnOk};
+ghost use Rattle.std.specs.Prelude.{◌≡◌, ◌↔◌, filter, IsTrue, IfOk, OnOk};
 ghost use Rattle.std.specs.BTreeMap.{IsOrdered};
 ghost use Rattle.changes.specs.Order.{partition_cmp};
 ghost use Rattle.durable_state.specs.Taking.{LetsGo};
-ghost use Rattle.list_replica.specs.Removing.{IsAdded, IsWithout};
+ghost use Rattle.list_replica.specs.Removing.{is_other, IsAdded, IsWithout};
 ghost use Rattle.list_replica.specs.Stores.{all_of};
 
 use crate::contents::Contents;
@@ -25,6 +25,25 @@ fn add(rest: &mut PartitionContent, alloc: Global, arrived: Arrived) -> Result<(
     Ok(())
 }
 
+fn is_same(x: &Held, y: &Held) -> bool
+    ensures { IsTrue result ↔ (x.now ≡ y.now) }
+{
+    x.place == y.place && x.rank(y).is_eq()
+}
+
+/// All that is stored but this change.
+fn others(
+    content: &PartitionContent,
+    alloc: Global,
+    held: &Held,
+) -> Result<Vec<Arrived>, AllocError>
+    ensures { IfOk result (λ all. all.items ≡ filter (is_other held.now) content.now.stored) }
+{
+    let mut all = content.stored(alloc)?;
+    all.retain(|arrived| !is_same(&arrived.held, held));
+    Ok(all)
+}
+
 /// The content of a partition without this change.
 fn without(
     content: &PartitionContent,
@@ -35,10 +54,8 @@ fn without(
 {
     let _ = content.encoded_length();
     let mut rest = PartitionContent::new(alloc);
-    for arrived in content.stored(alloc)? {
-        if arrived.held != *held {
-            add(&mut rest, alloc, arrived)?;
-        }
+    for arrived in others(content, alloc, held)? {
+        add(&mut rest, alloc, arrived)?;
     }
     Ok(rest)
 }
@@ -54,7 +71,7 @@ fn remove(content: &mut PartitionContent, alloc: Global, held: &Held) -> Result<
 pub fn let_go(contents: &mut Contents, alloc: Global, change: &Change) -> Result<(), AllocError>
     requires { IsOrdered partition_cmp contents.old }
     ensures gone { OnOk result (LetsGo (all_of contents.old.entries) change.now (all_of contents.new.entries)) }
-    ensures ordered { OnOk result (IsOrdered partition_cmp contents.new) }
+    ensures ordered { IsOrdered partition_cmp contents.new }
 {
     match contents.get_mut(&change.partition) {
         Some(content) => remove(content, alloc, &change.held),

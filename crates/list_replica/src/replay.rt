@@ -51,7 +51,7 @@ fn take_data(
 ) -> Result<(), AllocError>
     requires { IsOrdered partition_cmp contents.old }
     ensures takes { OnOk result (TakesData at mutation contents.old contents.new) }
-    ensures ordered { OnOk result (IsOrdered partition_cmp contents.new) }
+    ensures ordered { IsOrdered partition_cmp contents.new }
 {
     let Mutation { partition, changes } = mutation;
     let incoming = Content::from_changes(alloc, changes.into_vec())?;
@@ -120,7 +120,7 @@ impl Replay {
     fn take_item(&mut self, alloc: Global, item: LogItem) -> Result<(), AllocError>
         requires { IsOrdered partition_cmp self.old.contents }
         ensures shows { OnOk result (ShowsItem item self.old self.new) }
-        ensures ordered { OnOk result (IsOrdered partition_cmp self.new.contents) }
+        ensures ordered { IsOrdered partition_cmp self.new.contents }
         ensures replayed { replayed self.new ≡ replayed self.old }
     {
         match item {
@@ -140,7 +140,7 @@ impl Replay {
     fn take_items(&mut self, alloc: Global, items: Vec<LogItem>) -> Result<(), AllocError>
         requires { IsOrdered partition_cmp self.old.contents }
         ensures shows { OnOk result (ShowsItems items.items self.old self.new) }
-        ensures ordered { OnOk result (IsOrdered partition_cmp self.new.contents) }
+        ensures ordered { IsOrdered partition_cmp self.new.contents }
         ensures replayed { replayed self.new ≡ replayed self.old }
     {
         for item in items {
@@ -152,7 +152,7 @@ impl Replay {
     fn take_entry(&mut self, alloc: Global, entry: LogEntry) -> Result<(), AllocError>
         requires { IsOrdered partition_cmp self.old.contents }
         ensures shows { OnOk result (ShowsItems entry.items self.old self.new) }
-        ensures ordered { OnOk result (IsOrdered partition_cmp self.new.contents) }
+        ensures ordered { IsOrdered partition_cmp self.new.contents }
         ensures replayed { OnOk result (replayed self.new ≡ replayed self.old ++ (entry, tt) ∷ []) }
     {
         self.committed = self.committed.and(&entry, &());
@@ -174,21 +174,29 @@ impl Replay {
     /// The contents, and what is kept beside them.
     fn finish(self, alloc: Global) -> Result<(Memtable, Kept), AllocError>
         ensures contents { IfOk result (λ r. r.0.contents ≡ self.contents) }
-        ensures committed { IfOk result (λ r. r.0.committed ≡ self.committed) }
+        ensures committed { IfOk result (λ r. r.0.committed.items ≡ self.committed.items) }
         ensures kept { IfOk result (λ r. (d : durable) → Shows self d → IsKeptOf d r.1) }
         ensures in_order { IfOk result (λ r. IsInOrder r.1) }
     {
-        let rows = list_rows(alloc, self.rows)?;
-        let numbers = list_numbers(alloc, self.numbers)?;
-        let memtable = Memtable::new(alloc, self.contents, self.committed);
+        let Replay {
+            contents,
+            ceiling,
+            rows,
+            hints,
+            numbers,
+            marks,
+            committed,
+        } = self;
+        let rows = list_rows(alloc, rows)?;
+        let numbers = list_numbers(alloc, numbers)?;
         let kept = Kept {
-            ceiling: self.ceiling,
+            ceiling,
             rows: Items::from_vec(rows),
-            hints: Items::from_vec(self.hints),
+            hints: Items::from_vec(hints),
             numbers: Items::from_vec(numbers),
-            marks: Items::from_vec(self.marks),
+            marks: Items::from_vec(marks),
         };
-        Ok((memtable, kept))
+        Ok((Memtable::new(alloc, contents, committed), kept))
     }
 }
 
@@ -222,5 +230,6 @@ pub fn take_up(alloc: Global, entries: LogEntries) -> Result<(Memtable, Kept), A
     ensures in_order { IfOk result (λ r. IsInOrder r.1) }
 {
     let replay = Replay::of(alloc, entries)?;
-    replay.finish(alloc)
+    let (memtable, kept) = replay.finish(alloc)?;
+    Ok((memtable, kept))
 }

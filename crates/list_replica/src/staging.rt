@@ -1,14 +1,15 @@
 //! The changes of an entry, staged by partition before the entry is in the log, with the memory taken that they need.
 
-ghost use Rattle.std.specs.Prelude.{◌≡◌, ◌↔◌, ◌⊎◌, ◌++◌, false, Contains, IsTrue, IfNone, IfSome, IfOk, OnOk};
-ghost use Rattle.std.specs.BTreeMap.{IsOrdered};
+ghost use Rattle.std.specs.Prelude.{◌≡◌, ◌≢◌, ◌↔◌, ◌⊎◌, ◌++◌, false, Contains, IsTrue, IfNone, IfSome, IfOk, OnOk};
+ghost use Rattle.std.specs.BTreeMap.{IsOrdered, get};
 ghost use Rattle.std.specs.Option.{option_copied};
 ghost use Rattle.changes.specs.declared.Held.{Held as held_value};
+ghost use Rattle.changes.specs.declared.Partition.{Partition as partition_value};
 ghost use Rattle.changes.specs.Contents.{IsContent};
 ghost use Rattle.changes.specs.Order.{partition_cmp};
 ghost use Rattle.durable_state.specs.Taking.{InOne};
 ghost use Rattle.list_replica.specs.Stores.{all_of, IsReadyAt};
-ghost use Rattle.list_replica.specs.Staging.{mutation_of as mutation_in_item, mutations, Brings, IsStagedAt, StagesAt, IsStaging, AreOnce, AreReady, IsWithin, IsPast, StaysWithin, GrowsPast, AllStayWithin, IsFirstPast, AllCome};
+ghost use Rattle.list_replica.specs.Staging.{mutation_of as mutation_in_item, mutations, Brings, IsStagedAt, StagesAt, IsStaging, AreOnce, AreReady, IsWithin, IsPast, StaysWithin, GrowsPast, AllStayWithin, IsFirstPast, Comes, AllCome};
 
 use crate::contents::{Contents, reserve, take_in};
 use cell_merge::Content;
@@ -192,6 +193,18 @@ pub fn first_past<'a>(
     None
 }
 
+/// Takes the changes of a partition in at a node time.
+fn take_staged(contents: &mut Contents, staged: Staged, at: Micros)
+    requires ordered { IsOrdered partition_cmp contents.old }
+    requires ready { IsReadyAt contents.old staged.partition staged.changes }
+    ensures comes { Comes at contents.old contents.new staged }
+    ensures ordered { IsOrdered partition_cmp contents.new }
+    ensures others { (q : partition_value) → q ≢ staged.partition → get partition_cmp contents.new q ≡ get partition_cmp contents.old q }
+{
+    let Staged { partition, changes } = staged;
+    take_in(contents, &partition, changes, at);
+}
+
 /// Takes all these changes in at a node time. It takes no memory.
 pub fn take_all(contents: &mut Contents, staged: Vec<Staged>, at: Micros)
     requires ordered { IsOrdered partition_cmp contents.old }
@@ -201,7 +214,6 @@ pub fn take_all(contents: &mut Contents, staged: Vec<Staged>, at: Micros)
     ensures ordered { IsOrdered partition_cmp contents.new }
 {
     for changes in staged {
-        let Staged { partition, changes } = changes;
-        take_in(contents, &partition, changes, at);
+        take_staged(contents, changes, at);
     }
 }

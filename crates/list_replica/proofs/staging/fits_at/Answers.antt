@@ -16,7 +16,7 @@ loop-changes-preserved c =
     elim (Contains-push_cases (take c.loop-changes.changes-index c.args.staged.now) c.changes-item.result h.0
     (subst (λ (l : List Staged). Contains l h.0) (front_more c.args.staged.now c.loop-changes.changes-index c.changes-item.result (omega arith) c.changes-item.is) h.1)) [
       | inl before ↦ c.loop-changes.invariant (h.0, before, h.2)
-      | inr same ↦ both_ways c.is_same.result c.if-is_same.false (c.is_same.ensures.1 (sym (ap (λ (s : Staged). s.partition) same) ∙ h.2))
+      | inr same ↦ both_ways c.is_same.result c.if-is_same.false (c.is_same.ensures.1 (ap (λ (s : Staged). s.partition) same ∙ h.2))
     ]
 
 pub fits-requires : goal.fits-requires

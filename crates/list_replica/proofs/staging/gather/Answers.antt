@@ -1,4 +1,4 @@
-use Rattle.std.proofs.Common.{◌↔◌, List, take, arith, subst, sym, Contains}
+use Rattle.std.proofs.Common.{◌↔◌, List, [], take, arith, subst, sym, Contains}
 use Rattle.std.proofs.lemmas.List.{take_all}
 use Rattle.std.proofs.lemmas.Result.{IfOk-weaker}
 use Rattle.changes.specs.declared.Held.{Held}
@@ -11,7 +11,7 @@ use Rattle.list_replica.proofs.Gathering.{brought_more, none_brought}
 use Rattle.list_replica.proofs.staging.gather.Goals as goal
 
 pub loop-item-init : goal.loop-item-init
-loop-item-init c = λ x. none_brought c.args.partition.now x
+loop-item-init c = subst (λ (l : List Held). (x : Held) → Contains l x ↔ InOne (mutations []) c.args.partition.now x) (sym c.new-changes.ensures.items) (λ x. none_brought c.args.partition.now x)
 
 pub loop-item-preserved : goal.loop-item-preserved
 loop-item-preserved c =

@@ -16,8 +16,8 @@ loop-changes-init c =
       ordered = c.requires.ordered;
     }
 
-pub take_in-requires-clause-ready : goal.take_in-requires-clause-ready
-take_in-requires-clause-ready c =
+pub take_staged-requires-clause-ready : goal.take_staged-requires-clause-ready
+take_staged-requires-clause-ready c =
     subst (λ (l : List Staged). AreReady c.loop-changes.contents l) c.in-Some.ensures.steps.0 c.loop-changes.invariant.ready c.in-Some.changes (contains_here c.in-Some.changes (into_iter_items c.next.new.self))
 
 pub loop-changes-preserved : goal.loop-changes-preserved
@@ -28,10 +28,10 @@ loop-changes-preserved c =
     subst (λ (l : List Staged). AreOnce l) (sym (split_next c.args.staged.items c.loop-changes.yielded (into_iter_items c.loop-changes.changes-iterator) rest s c.loop-changes.invariant.split c.in-Some.ensures.steps.0)) c.requires.once in
     record {
       split = split_more c.args.staged.items c.loop-changes.yielded (into_iter_items c.loop-changes.changes-iterator) rest s c.loop-changes.invariant.split c.in-Some.ensures.steps.0;
-      come = come_more c.args.at c.args.contents.now c.loop-changes.contents c.take_in.new.contents c.loop-changes.yielded s rest once c.loop-changes.invariant.come c.take_in.ensures.comes c.take_in.ensures.others;
-      ready = ready_rest c.loop-changes.contents c.take_in.new.contents c.loop-changes.yielded s rest once
-          (subst (λ (l : List Staged). AreReady c.loop-changes.contents l) c.in-Some.ensures.steps.0 c.loop-changes.invariant.ready) c.take_in.ensures.others;
-      ordered = c.take_in.ensures.ordered;
+      come = come_more c.args.at c.args.contents.now c.loop-changes.contents c.take_staged.new.contents c.loop-changes.yielded s rest once c.loop-changes.invariant.come c.take_staged.ensures.comes c.take_staged.ensures.others;
+      ready = ready_rest c.loop-changes.contents c.take_staged.new.contents c.loop-changes.yielded s rest once
+          (subst (λ (l : List Staged). AreReady c.loop-changes.contents l) c.in-Some.ensures.steps.0 c.loop-changes.invariant.ready) c.take_staged.ensures.others;
+      ordered = c.take_staged.ensures.ordered;
     }
 
 pub returns-clause-comes : goal.returns-clause-comes

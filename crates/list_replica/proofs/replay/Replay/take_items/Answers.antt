@@ -2,8 +2,8 @@ use Rattle.std.proofs.Common.{◌≡◌, ◌∙◌, List, [], refl, subst}
 use Rattle.std.specs.Vec.Iter.{into_iter_items, into_iter_len}
 use Rattle.row_change.specs.declared.entry.LogItem.{LogItem}
 use Rattle.list_replica.specs.Replays.{ShowsItems}
-use Rattle.list_replica.proofs.Replaying.{shows_none, shows_more}
 use Rattle.list_replica.proofs.Gathering.{split_more, nothing_left, all_taken}
+use Rattle.list_replica.proofs.Replaying.{shows_none, shows_more}
 use Rattle.list_replica.proofs.replay.Replay.take_items.Goals as goal
 
 pub loop-item-init : goal.loop-item-init
@@ -13,7 +13,7 @@ pub loop-item-preserved : goal.loop-item-preserved
 loop-item-preserved c = record {
   split = split_more c.args.items.items c.loop-item.yielded (into_iter_items c.loop-item.item-iterator) (into_iter_items c.next.new.self) c.in-Some.item c.loop-item.invariant.split c.in-Some.ensures.steps.0;
   shows = shows_more c.loop-item.yielded c.in-Some.item c.args.self.now c.loop-item.self c.take_item.new.self c.loop-item.invariant.shows c.in_ok-take_item.ensures.shows;
-  ordered = c.in_ok-take_item.ensures.ordered;
+  ordered = c.take_item.ensures.ordered;
   replayed = c.take_item.ensures.replayed ∙ c.loop-item.invariant.replayed;
 }
 
