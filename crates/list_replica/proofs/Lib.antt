@@ -1,3 +1,4 @@
+mod Arriving
 mod Coming
 mod Gathering
 mod Growing

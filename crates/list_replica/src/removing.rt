@@ -1,10 +1,10 @@
 //! A change that is let go of: what else is held of its partition is put together anew.
 
-ghost use Rattle.std.specs.Prelude.{◌≡◌, ◌↔◌, filter, IsTrue, IfOk, OnOk};
+ghost use Rattle.std.specs.Prelude.{◌≡◌, filter, IfOk, OnOk};
 ghost use Rattle.std.specs.BTreeMap.{IsOrdered};
 ghost use Rattle.changes.specs.Order.{partition_cmp};
 ghost use Rattle.durable_state.specs.Taking.{LetsGo};
-ghost use Rattle.list_replica.specs.Removing.{is_other, IsAdded, IsWithout};
+ghost use Rattle.list_replica.specs.Removing.{is_other, is_same_held, IsAdded, IsWithout};
 ghost use Rattle.list_replica.specs.Stores.{all_of};
 
 use crate::contents::Contents;
@@ -26,7 +26,7 @@ fn add(rest: &mut PartitionContent, alloc: Global, arrived: Arrived) -> Result<(
 }
 
 fn is_same(x: &Held, y: &Held) -> bool
-    ensures { IsTrue result ↔ (x.now ≡ y.now) }
+    ensures { result ≡ is_same_held x.now y.now }
 {
     x.place == y.place && x.rank(y).is_eq()
 }

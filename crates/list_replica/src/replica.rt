@@ -86,7 +86,7 @@ fn begin<S: Store + Drop>(
 }
 
 impl<S: Store + Drop> Replica for ListReplica<S> {
-    ghost use Rattle.cs_store.specs.Disk.{Disk, IsSettled};
+    ghost use Rattle.std.specs.Prelude.{◌+◌, false};
     ghost use Rattle.commit_log.proofs.Readings.{one_way};
     ghost use Rattle.list_replica.specs.Memtables.{kept_in};
     ghost use Rattle.list_replica.specs.Standing.{StandsFor, IsDamagedAt};

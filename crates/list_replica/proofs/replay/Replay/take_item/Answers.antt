@@ -31,3 +31,15 @@ returns-in-Ceiling-clause-shows c =
 pub returns-in-Purge-clause-shows : goal.returns-in-Purge-clause-shows
 returns-in-Purge-clause-shows c =
     on_ok_weaker c.let_go.result (λ gone. subst (λ (i : LogItem). ShowsItem i c.args.self.now (record c.args.self.now { contents = c.let_go.new.contents })) (sym c.in-Purge.is) (purge_shows c.args.self.now c.let_go.new.contents c.in-Purge.change gone c.let_go.ensures.ordered)) c.let_go.ensures.gone
+
+pub returns-in-Paxos-clause-shows : goal.returns-in-Paxos-clause-shows
+returns-in-Paxos-clause-shows c = on_ok_weaker c.set_row.result (λ shows. subst (λ (i : LogItem). ShowsItem i c.args.self.now c.set_row.new.self) (sym c.in-Paxos.is) shows) c.set_row.ensures.shows
+
+pub returns-in-HintAdd-clause-shows : goal.returns-in-HintAdd-clause-shows
+returns-in-HintAdd-clause-shows c = on_ok_weaker c.add_hint.result (λ shows. subst (λ (i : LogItem). ShowsItem i c.args.self.now c.add_hint.new.self) (sym c.in-HintAdd.is) shows) c.add_hint.ensures.shows
+
+pub returns-in-HintGone-clause-shows : goal.returns-in-HintGone-clause-shows
+returns-in-HintGone-clause-shows c = on_ok_weaker c.remove_hint.result (λ shows. subst (λ (i : LogItem). ShowsItem i c.args.self.now c.remove_hint.new.self) (sym c.in-HintGone.is) shows) c.remove_hint.ensures.shows
+
+pub returns-in-Mark-clause-shows : goal.returns-in-Mark-clause-shows
+returns-in-Mark-clause-shows c = on_ok_weaker c.add_mark.result (λ shows. subst (λ (i : LogItem). ShowsItem i c.args.self.now c.add_mark.new.self) (sym c.in-Mark.is) shows) c.add_mark.ensures.shows
