@@ -7,6 +7,7 @@ mod Keeping
 mod Leaving
 mod Listing
 mod Looking
+mod Refusing
 mod Replaying
 mod RowLooking
 mod Sound

@@ -1,23 +1,33 @@
 -- The replica stands on its disk through its calls.
-use Rattle.std.proofs.Common.{◌≡◌, ℕ, ◌+◌, ◌≤◌, Option, Some, None, List, [], ◌∷◌, ◌++◌, refl, sym, ◌∙◌, ap, subst, arith}
-use Rattle.std.specs.Prelude.{IfSome}
+use Rattle.std.proofs.Common.{◌≡◌, ◌↔◌, Contains, ℕ, ◌+◌, ◌≤◌, Option, Some, None, List, [], ◌∷◌, ◌++◌, refl, sym, ◌∙◌, ap, subst, arith}
+use Rattle.std.specs.Prelude.{IfSome, IsTrue}
+use Rattle.cs_base.specs.declared.range.Range.{Range}
+use Rattle.cs_base.specs.Ring.{in_range}
+use Rattle.changes.specs.declared.Bound.{Bound}
+use Rattle.changes.specs.declared.Held.{Held}
+use Rattle.changes.specs.declared.Partition.{Partition}
+use Rattle.changes.specs.Queries.{MeetsBounds}
 use Rattle.cs_store.specs.Disk.{Disk, IsSettled, Stays, SameFiles, Passes, LeavesOnly}
 use Rattle.commit_log.specs.Format.{ReadsEntries, Adds, IsBeforeOrAfter, ReadsAlike}
 use Rattle.commit_log.specs.Place.{LogPlace}
+use Rattle.commit_log.proofs.Readings.{one_way}
 use Rattle.gate_log.specs.Place.{IsAtRest}
 use Rattle.row_change.specs.declared.entry.LogEntry.{LogEntry}
-use Rattle.durable_state.specs.State.{Durable, IsSameKept, formatted}
+use Rattle.durable_state.specs.State.{Durable, IsSameKept, formatted, changes_of, Holds}
 use Rattle.durable_state.specs.Keeping.{Commits, IsWithOrWithout}
 use Rattle.replica.specs.Finding.{AlwaysLeaves, IsSafe}
 use Rattle.replica.proofs.Fronts.{leaves_still}
 use Rattle.list_replica.specs.declared.memtable.Memtable.{Memtable}
 use Rattle.list_replica.specs.Keeping.{Entered, entries_of, kept_by}
 use Rattle.list_replica.specs.Memtables.{committed, kept_in, IsSound}
+use Rattle.list_replica.specs.Staging.{Map}
 use Rattle.list_replica.specs.Standing.{StandsFor}
+use Rattle.list_replica.specs.Stores.{all_of}
 use Rattle.list_replica.specs.Wholeness.{IsOnDisk, IsWhole}
 use Rattle.list_replica.proofs.Keeping.{kept_more, entries_push}
 use Rattle.list_replica.specs.Laws.{settled_is_safe, stands_kept, whole_is_safe}
-use Rattle.list_replica.proofs.Standing.{append_leaves, reserve_leaves}
+use Rattle.list_replica.proofs.Growing.{Shown, held_as}
+use Rattle.list_replica.proofs.Standing.{append_leaves, load_leaves, reserve_leaves}
 
 -- ---- nothing is committed
 
@@ -79,3 +89,65 @@ pub leaves_appended : (honest : Type 0) (disk disk' : Disk) (log : LogPlace) (ta
 leaves_appended honest disk disk' log table added entry h w only =
     append_leaves entry disk disk' (kept_in table) (stands_kept (committed table) disk.seen (w.on_disk h).reads)
     (subst (λ (f : ℕ). LeavesOnly f (IsBeforeOrAfter entry (disk.seen f)) disk disk') w.file (only h))
+
+pub whole_appended : (honest : Type 0) (disk disk' : Disk) (log log' : LogPlace) (table table' : Memtable) (added added' : Option ℕ) (entry : LogEntry) → IsWhole honest disk log table added → log'.place.file ≡ log.place.file
+    → (honest → Adds entry (disk.seen log.place.file) (disk'.seen log.place.file)) → (honest → IsAtRest log'.place.gate (disk'.seen log.place.file)) → (honest → IsSettled log.place.file disk') → IsSound table'
+    → committed table' ≡ committed table ++ (entry, tt) ∷ [] → IfSome added' (λ n. n ≤ log'.place.gate) → IsWhole honest disk' log' table' added'
+whole_appended honest disk disk' log log' table table' added added' entry w file adds rest settled sound came within = record {
+  file = file ∙ w.file;
+  on_disk = λ h.
+      subst (λ (es : List Entered). IsOnDisk disk' log'.place.gate (entries_of es)) (sym came)
+      (on_appended disk disk' log.place.file log.place.gate log'.place.gate (committed table) entry w.file (w.on_disk h) (adds h) (rest h) (settled h));
+  sound = sound;
+  added = within;
+}
+
+pub safe_appended : (honest : Type 0) (disk disk' : Disk) (log log' : LogPlace) (table table' : Memtable) (added : Option ℕ) (entry : LogEntry) → honest → IsWhole honest disk log table added → log'.place.file ≡ log.place.file
+    → (honest → Adds entry (disk.seen log.place.file) (disk'.seen log.place.file)) → (honest → IsAtRest log'.place.gate (disk'.seen log.place.file)) → (honest → IsSettled log.place.file disk') → IsSound table'
+    → committed table' ≡ committed table ++ (entry, tt) ∷ [] → IsSafe StandsFor (kept_in table') disk'
+safe_appended honest disk disk' log log' table table' added entry h w file adds rest settled sound came =
+    whole_is_safe honest disk' log' table' None h (whole_appended honest disk disk' log log' table table' added None entry w file adds rest settled sound came tt)
+
+pub keeps_appended : (table table' : Memtable) (entry : LogEntry) → committed table' ≡ committed table ++ (entry, tt) ∷ [] → Commits entry.items (kept_in table) (kept_in table')
+keeps_appended table table' entry came = subst (λ (es : List Entered). Commits entry.items (kept_in table) (kept_by es)) (sym came) (kept_more (committed table) (entry, tt) formatted)
+
+-- ---- a load
+
+pub stands_loaded : (es : List Entered) (entries : List LogEntry) (files : ℕ → List ℕ) (f : ℕ) → f ≡ 0 → entries_of es ≡ entries → ReadsEntries entries (files f) → StandsFor files (kept_by es)
+stands_loaded es entries files f zero same reads =
+    stands_kept es files (subst (λ (l : List LogEntry). ReadsEntries l (files 0)) (sym same) (subst (λ (k : ℕ). ReadsEntries entries (files k)) zero reads))
+
+pub leaves_loaded : (old new : Disk) (f : ℕ) → f ≡ 0 → LeavesOnly f (ReadsAlike (old.seen f)) old new → (d : Durable) → StandsFor old.seen d → AlwaysLeaves StandsFor (IsSameKept d) old new
+leaves_loaded old new f zero only d stands = load_leaves one_way old new d stands (subst (λ (k : ℕ). LeavesOnly k (ReadsAlike (old.seen k)) old new) zero only)
+
+pub whole_loaded : (honest : Type 0) (disk' : Disk) (log : LogPlace) (table : Memtable) (entries : List LogEntry) (f : ℕ) → f ≡ 0 → log.place.file ≡ f → (honest → ReadsEntries entries (disk'.seen f)) → (honest → IsAtRest log.place.gate (disk'.seen f))
+    → (honest → IsSettled f disk') → IsSound table → entries_of (committed table) ≡ entries → IsWhole honest disk' log table None
+whole_loaded honest disk' log table entries f zero file reads rest settled sound same = record {
+  file = file ∙ zero;
+  on_disk = λ h. record {
+    reads = subst (λ (l : List LogEntry). ReadsEntries l (disk'.seen 0)) (sym same) (subst (λ (k : ℕ). ReadsEntries entries (disk'.seen k)) zero (reads h));
+    at_rest = subst (λ (k : ℕ). IsAtRest log.place.gate (disk'.seen k)) zero (rest h);
+    settled = subst (λ (k : ℕ). IsSettled k disk') zero (settled h);
+  };
+  sound = sound;
+  added = tt;
+}
+
+-- ---- what is read
+
+pub listed_as : (contents shown : Map) (d : Durable) (range : Range) (ps : List Partition) → shown ≡ contents → Shown contents d
+    → ((p : Partition) → Contains ps p ↔ (((x : Held) × Holds (changes_of (all_of shown.entries)) p x) × IsTrue (in_range range p.token)))
+    → (p : Partition) → Contains ps p ↔ (((x : Held) × Holds (changes_of d.content) p x) × IsTrue (in_range range p.token))
+listed_as contents shown d range ps e holds has p =
+    let same : Shown shown d = subst (λ (m : Map). Shown m d) (sym e) holds in (
+      λ k. let h = (has p).0 k in ((h.0.0, held_as (all_of shown.entries) d.content p h.0.0 (λ y. (same y).0) h.0.1), h.1),
+      λ h. (has p).1 ((h.0.0, held_as d.content (all_of shown.entries) p h.0.0 (λ y. (same y).1) h.0.1), h.1),
+    )
+
+pub between_as : (contents shown : Map) (d : Durable) (p : Partition) (from upto : Bound) (part : List Held) → shown ≡ contents → Shown contents d
+    → ((x : Held) → Contains part x ↔ (Holds (changes_of (all_of shown.entries)) p x × MeetsBounds from upto x.place)) → (x : Held) → Contains part x ↔ (Holds (changes_of d.content) p x × MeetsBounds from upto x.place)
+between_as contents shown d p from upto part e holds has x =
+    let same : Shown shown d = subst (λ (m : Map). Shown m d) (sym e) holds in (
+      λ k. let h = (has x).0 k in (held_as (all_of shown.entries) d.content p x (λ y. (same y).0) h.0, h.1),
+      λ h. (has x).1 (held_as d.content (all_of shown.entries) p x (λ y. (same y).1) h.0, h.1),
+    )

@@ -1,5 +1,9 @@
+use Rattle.std.proofs.Common.{sym, subst}
 use Rattle.std.proofs.lemmas.Result.{on_ok_weaker}
-use Rattle.list_replica.proofs.Leaving.{lets_go_found}
+use Rattle.durable_state.specs.Taking.{LetsGo}
+use Rattle.list_replica.specs.Staging.{Map}
+use Rattle.list_replica.specs.Stores.{all_of}
+use Rattle.list_replica.proofs.Leaving.{lets_go_found, lets_go_none}
 use Rattle.list_replica.proofs.Looking.{away, is_found}
 use Rattle.list_replica.proofs.removing.let_go.Goals as goal
 
@@ -13,4 +17,5 @@ returns-in-Some-clause-gone c =
     c.remove.ensures
 
 pub returns-in-None-clause-gone : goal.returns-in-None-clause-gone
-returns-in-None-clause-gone c = let h = c.get_mut in let k = c.get_mut.follows in ?
+returns-in-None-clause-gone c =
+    subst (λ (n : Map). LetsGo (all_of c.args.contents.now.entries) c.args.change.now (all_of n.entries)) (sym c.get_mut.follows.holds-at-none) (lets_go_none c.args.contents.now c.args.change.now c.requires c.in-None.ensures.value)

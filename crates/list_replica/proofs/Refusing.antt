@@ -1,0 +1,16 @@
+-- A disk that a refusal hands back.
+use Rattle.std.proofs.Common.{◌≡◌, Result, Ok, Err}
+use Rattle.std.specs.Prelude.{IfErr}
+use Rattle.std.specs.Result.{IsErrOf}
+use Rattle.replica.specs.declared.error.LoadError.{LoadError}
+use Rattle.replica.specs.declared.error.LoadError.TheVariants.{Failed, NoMemory}
+
+pub same_failed : {S A : Type 0} (a b : S) → IsErrOf {T = A} {E = LoadError S} (Err (Failed a)) (Failed b) → a ≡ b
+same_failed a b e = cc
+
+pub same_no_memory : {S A : Type 0} (a b : S) → IsErrOf {T = A} {E = LoadError S} (Err (NoMemory a)) (NoMemory b) → a ≡ b
+same_no_memory a b e = cc
+
+pub no_memory_is : {S A : Type 0} (r : Result A (LoadError S)) (store s : S) → IfErr r (λ e. e ≡ NoMemory store) → IsErrOf r (NoMemory s) → store ≡ s
+no_memory_is (Ok x) store s refused is = cc
+no_memory_is (Err e) store s refused is = cc
