@@ -59,8 +59,7 @@ takes_all : (old new : Map) (time : ℕ) (items : List LogItem) (staged : List S
 takes_all old new time items staged ordered ordered' staging all = record {
   each = λ p t.
       let s = staging.all p t in
-      subst (λ (q : Partition). (kept : List Held) × IsHeldOf (changes_of (all_of new.entries)) q kept × IsContent kept (Either (Holds (changes_of (all_of old.entries)) q) (InOne (mutations items) q))) s.2
-      (
+      subst (λ (q : Partition). (kept : List Held) × IsHeldOf (changes_of (all_of new.entries)) q kept × IsContent kept (Either (Holds (changes_of (all_of old.entries)) q) (InOne (mutations items) q))) s.2 (
         held_at new s.0.partition,
         λ x. (λ k. holds_from new s.0.partition x k, λ h. holds_to new s.0.partition x ordered' h),
         held_of_all old new time items staged ordered staging all s.0 s.1,

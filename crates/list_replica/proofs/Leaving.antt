@@ -49,6 +49,7 @@ one_of (x ∷ xs) up a b k l same = elim (contains_cases x xs a k) [
   where
     below : {z : Arrived} → Contains xs z → stored_cmp x.held z.held ≡ Less
     below {z} m = all_at (λ (h : Held). stored_cmp x.held h ≡ Less) (map held_of xs) z.held (sorted_head stored_cmp x.held (map held_of xs) up) (contains_map held_of xs z m)
+
     no_less : (u v : Arrived) → stored_cmp u.held v.held ≡ Less → u.held ≡ v.held → ⊥
     no_less u v less e = let f = sym (subst (λ (h : Held). stored_cmp u.held h ≡ Equal) e (tied_itself stored_total u.held)) ∙ less in cc
 

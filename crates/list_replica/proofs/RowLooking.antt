@@ -53,9 +53,9 @@ rows_in_order [] up = tt
 rows_in_order (e ∷ es) up = (
   all_from (λ (r : RowAt). by_partition (row_entry e) r ≡ Less) (map row_entry es)
       (λ r k.
-          let f = contains_from_map row_entry es r k in
-          subst (λ (z : RowAt). by_partition (row_entry e) z ≡ Less) f.2
-          (all_at (λ (q : Partition). partition_cmp e.0 q ≡ Less) (keys_of es) f.0.0 up.0 (contains_map (λ (g : Partition × PaxosRow). g.0) es f.0 f.1))),
+      let f = contains_from_map row_entry es r k in
+      subst (λ (z : RowAt). by_partition (row_entry e) z ≡ Less) f.2
+      (all_at (λ (q : Partition). partition_cmp e.0 q ≡ Less) (keys_of es) f.0.0 up.0 (contains_map (λ (g : Partition × PaxosRow). g.0) es f.0 f.1))),
   rows_in_order es up.1,
 )
 
@@ -86,8 +86,8 @@ numbers_in_order [] up = tt
 numbers_in_order (e ∷ es) up = (
   all_from (λ (n : LastNumber). by_peer (number_entry e) n ≡ Less) (map number_entry es)
       (λ n k.
-          let f = contains_from_map number_entry es n k in
-          subst (λ (z : LastNumber). by_peer (number_entry e) z ≡ Less) f.2
-          (all_at (λ (q : ℕ). nat_cmp e.0 q ≡ Less) (keys_of es) f.0.0 up.0 (contains_map (λ (g : ℕ × ℕ). g.0) es f.0 f.1))),
+      let f = contains_from_map number_entry es n k in
+      subst (λ (z : LastNumber). by_peer (number_entry e) z ≡ Less) f.2
+      (all_at (λ (q : ℕ). nat_cmp e.0 q ≡ Less) (keys_of es) f.0.0 up.0 (contains_map (λ (g : ℕ × ℕ). g.0) es f.0 f.1))),
   numbers_in_order es up.1,
 )

@@ -21,8 +21,8 @@ use commit_log::LogEntries;
 use cs_base::{Items, Micros, NodeId};
 use durable_state::{LastNumber, RowAt};
 use http_server::Log;
-use row_change::{Hint, LogEntry, LogItem, Mark, PaxosRow};
 use replica::Kept;
+use row_change::{Hint, LogEntry, LogItem, Mark, PaxosRow};
 use std::alloc::{AllocError, Global};
 use std::collections::BTreeMap;
 

@@ -43,7 +43,9 @@ fn main(rt: HostRuntime) -> Result<()> {
         "read" => read(&rt, place)?,
         "load" => load(&rt, place)?,
         "memory" => memory(&rt, place.parse()?, count)?,
-        _ => bail!("append or fill FOLDER COUNT, read or load FOLDER, memory ROWS COUNT, or no words"),
+        _ => bail!(
+            "append or fill FOLDER COUNT, read or load FOLDER, memory ROWS COUNT, or no words"
+        ),
     }
     Ok(())
 }
@@ -58,7 +60,9 @@ fn word_of(alloc: Global, partition: u32, rows: u32, from: u32) -> Result<Vec<u8
     for row in from..from.saturating_add(rows) {
         word.extend_from_slice(b"\x01\0\0\0\x04")?;
         word.extend_from_slice(&row.to_be_bytes())?;
-        word.extend_from_slice(b"\x02\x01\0\0\0\x05value\0\0\0\0\0\0\0\x01\0\0\0\0\0\0\0\x01\x01\0\0\0\0\0\0\0\x01")?;
+        word.extend_from_slice(
+            b"\x02\x01\0\0\0\x05value\0\0\0\0\0\0\0\x01\0\0\0\0\0\0\0\x01\x01\0\0\0\0\0\0\0\x01",
+        )?;
     }
     Ok(word)
 }

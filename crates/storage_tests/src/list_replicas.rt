@@ -40,12 +40,7 @@ type Step<'a> = (&'a [u8], u64);
 const STEPS: [Step; 3] = [(FIRST, 5), (SECOND, 6), (THIRD, 7)];
 
 /// What is kept behind so many of them: the cells with their values, the ceiling, how many hints, and the last number.
-const KEPT: [&str; 4] = [
-    "| 0 0 0",
-    "ax | 5 0 0",
-    "ax by | 6 1 3",
-    "az by cw | 6 0 3",
-];
+const KEPT: [&str; 4] = ["| 0 0 0", "ax | 5 0 0", "ax by | 6 1 3", "az by cw | 6 0 3"];
 
 /// Commits an entry, and tells whether it is acknowledged.
 fn commit_one<R: Replica>(
@@ -68,11 +63,7 @@ fn commit_one<R: Replica>(
 }
 
 /// Commits entries until one is not acknowledged, and tells how many are.
-fn commit_each<R: Replica>(
-    replica: &mut R,
-    alloc: Global,
-    steps: &[Step],
-) -> Result<usize, Fail>
+fn commit_each<R: Replica>(replica: &mut R, alloc: Global, steps: &[Step]) -> Result<usize, Fail>
     requires { R.is_whole replica.old }
 {
     let mut acknowledged = 0;
@@ -92,14 +83,24 @@ fn shown<R: Replica>(replica: &mut R, alloc: Global, kept: &Kept) -> Result<Stri
 {
     let mut text = String::new(alloc);
     for held in cells(replica, alloc)?.as_slice() {
-        let row = held.place.row().map_or(b"".as_slice(), |row| row.as_slice());
-        let value = held.value.as_ref().map_or(b"".as_slice(), |value| value.as_slice());
+        let row = held
+            .place
+            .row()
+            .map_or(b"".as_slice(), |row| row.as_slice());
+        let value = held
+            .value
+            .as_ref()
+            .map_or(b"".as_slice(), |value| value.as_slice());
         text.push_str(std::str::from_utf8(row)?)?;
         text.push_str(std::str::from_utf8(value)?)?;
         text.push(' ')?;
     }
     let hints = kept.hints.as_slice().len();
-    let last = kept.numbers.as_slice().first().map_or(0, |number| number.last);
+    let last = kept
+        .numbers
+        .as_slice()
+        .first()
+        .map_or(0, |number| number.last);
     let beside = format!(in alloc; "| {} {hints} {last}", kept.ceiling.count())?;
     text.push_str(beside.as_str())?;
     Ok(text)
@@ -167,7 +168,10 @@ fn a_commit_that_fails_is_there_whole_or_not(rt: HostRuntime) -> Result<(), Fail
         for outcome in [Outcome::Kept, Outcome::Lost, Outcome::Torn] {
             for fails in [true, false] {
                 let (acknowledged, text) = try_fault(rt.alloc(), call, fails, outcome)?;
-                assert!(rt; is_front(acknowledged, text.as_str()), "{call} {outcome:?}: {text}");
+                assert!(rt;
+                    is_front(acknowledged, text.as_str()),
+                    "{call} {outcome:?}: {text}"
+                );
                 // The load takes four calls, and each commit four.
                 assert_eq!(rt; acknowledged, ((call - 5) / 4) as usize);
             }
