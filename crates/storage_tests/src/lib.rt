@@ -4,6 +4,4 @@
 #[cfg(test)]
 mod commit_logs;
 #[cfg(test)]
-mod list_replicas;
-#[cfg(test)]
 mod stores;
