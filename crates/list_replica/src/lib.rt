@@ -4,9 +4,9 @@
 mod contents;
 mod hints;
 mod memtable;
+mod on_log;
 mod removing;
 mod replay;
-mod replica;
 mod staging;
 
-pub use replica::ListReplica;
+pub use on_log::ListReplica;

@@ -1,7 +1,7 @@
 use Rattle.std.proofs.Common.{ap, refl, sym, subst}
 use Rattle.list_replica.specs.Keeping.{kept_by}
 use Rattle.list_replica.proofs.Wholeness.{leaves_same, leaves_reserved}
-use Rattle.list_replica.proofs.replica.ListReplicaReplica.room.Goals as goal
+use Rattle.list_replica.proofs.on_log.ListReplicaReplica.room.Goals as goal
 
 pub returns-in_err-partition-clause-looked : goal.returns-in_err-partition-clause-looked
 returns-in_err-partition-clause-looked g c =

@@ -1,7 +1,7 @@
 use Rattle.std.proofs.Common.{ℕ, ◌≤◌, ◌∙◌, Option, None, arith, sym, subst}
 use Rattle.std.specs.Prelude.{IfSome}
 use Rattle.list_replica.proofs.Wholeness.{leaves_appended, whole_appended, safe_appended, keeps_appended}
-use Rattle.list_replica.proofs.replica.ListReplicaReplica.commit.Goals as goal
+use Rattle.list_replica.proofs.on_log.ListReplicaReplica.commit.Goals as goal
 
 pub returns-in_err-append-clause-any_moment : goal.returns-in_err-append-clause-any_moment
 returns-in_err-append-clause-any_moment g c =

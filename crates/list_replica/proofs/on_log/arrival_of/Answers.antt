@@ -2,7 +2,7 @@ use Rattle.std.proofs.Common.{List, arith, sym, ◌∙◌, subst}
 use Rattle.std.proofs.lemmas.List.{take_all}
 use Rattle.row_change.specs.declared.entry.LogItem.{LogItem}
 use Rattle.list_replica.proofs.Arriving.{NoneArrives, none_at}
-use Rattle.list_replica.proofs.replica.arrival_of.Goals as goal
+use Rattle.list_replica.proofs.on_log.arrival_of.Goals as goal
 
 pub returns : goal.returns
 returns c =

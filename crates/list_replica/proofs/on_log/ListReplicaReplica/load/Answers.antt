@@ -7,7 +7,7 @@ use Rattle.list_replica.specs.Memtables.{committed}
 use Rattle.list_replica.specs.Standing.{StandsFor}
 use Rattle.list_replica.proofs.Wholeness.{stands_loaded, leaves_loaded}
 use Rattle.list_replica.proofs.Refusing.{no_memory_is, same_no_memory, same_failed}
-use Rattle.list_replica.proofs.replica.ListReplicaReplica.load.Goals as goal
+use Rattle.list_replica.proofs.on_log.ListReplicaReplica.load.Goals as goal
 
 pub returns-in-Ok-clause-durable : goal.returns-in-Ok-clause-durable
 returns-in-Ok-clause-durable g c =
