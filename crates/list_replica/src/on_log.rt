@@ -191,15 +191,17 @@ impl<S: Store + Drop> Replica for ListReplica<S> {
         Ok(None)
     }
 
-    // No merge is ever begun.
     fn finish_merge(
         &mut self,
-        _: Global,
-        _: &LogEntry,
+        alloc: Global,
+        step: &LogEntry,
         _: &Kept,
         _: MergeDone,
     ) -> Result<Purges, FinishError> {
-        unreachable!()
+        match self.commit(step, arrival_of(step)) {
+            Ok(()) => Ok(Purges::new(alloc)),
+            Err(_) => Err(FinishError::Failed(Purges::new(alloc))),
+        }
     }
 
     fn flush_due(&self) -> bool {

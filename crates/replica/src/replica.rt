@@ -248,8 +248,9 @@ pub trait Replica: Drop {
         ensures faults { Self.Disk.faults (disk self.old) ≤ Self.Disk.faults (disk self.new) }
         ensures surely { ((n : ℕ) → Self.Disk.spares (disk self.old) n) → (IsErrOf result call_error.Failed → ⊥) × ((n : ℕ) → Self.Disk.spares (disk self.new) n) };
 
-    /// Puts a merge in the place of its tables and keeps the entry, both or neither; at `Stale` it keeps the entry alone. `kept` is
-    /// what is kept beside the contents then. It tells what the merge purged, and nothing else is held no more.
+    /// Puts a merge in the place of its tables and keeps the entry, both or neither; at `Stale` it keeps the entry alone, as also
+    /// where the merge is not the one that was begun last. `kept` is what is kept beside the contents then. It tells what the merge
+    /// purged, and nothing else is held no more. Where a list is kept, it keeps the entry and purges nothing.
     fn finish_merge(
         &mut self,
         alloc: Global,
@@ -261,7 +262,6 @@ pub trait Replica: Drop {
         requires whole { is_whole self.old }
         requires arrival { ArriveAtOnce step.now.items }
         requires kept { Self.Disk.is_honest → IsKeptAfter step.now.items (durable self.old) kept.now }
-        requires merging { is_merging self.old merge.job }
 
         ensures ok { IfOk result (λ purges. Self.Disk.is_honest → Committed stands_for (λ r. Self.Disk.disk (disk r)) durable (with_purges step.now.items purges) self.old self.new) }
         ensures stale { (f : ℕ) → IsErrOf result (finish_error.Stale f) → Self.Disk.is_honest → Committed stands_for (λ r. Self.Disk.disk (disk r)) durable step.now.items self.old self.new }
