@@ -1,9 +1,8 @@
 -- When the changes of an entry come.
-use Rattle.std.proofs.Common.{◌≡◌, ℕ, ◌+◌, ◌<◌, List, [], ◌∷◌, ◌++◌, length, take, drop, refl, sym, ◌∙◌, ap, subst, Contains}
+use Rattle.std.proofs.Common.{◌≡◌, ℕ, List, [], ◌∷◌, ◌++◌, subst}
 use Rattle.std.specs.List.{AllByRecursion}
 use Rattle.row_change.specs.declared.entry.LogItem.{LogItem}
-use Rattle.row_change.specs.declared.entry.LogItem.TheVariants.{Data, Paxos, HintAdd, HintGone, Ceiling, Mark, Purge}
-use Rattle.replica.specs.Kept.{ArrivesAt, ArriveAllAt, ArriveAtOnce}
+use Rattle.replica.specs.Kept.{ArrivesAt, ArriveAllAt}
 
 -- whatever the time, it comes then
 abbrev pub ComesAnyTime : LogItem → Type 0

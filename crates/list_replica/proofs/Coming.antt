@@ -1,13 +1,13 @@
 -- Changes that were staged come to what is held.
-use Rattle.std.proofs.Common.{◌≡◌, ◌≢◌, ◌↔◌, ◌⊎◌, ℕ, inl, inr, List, [], ◌∷◌, Contains, refl, sym, ◌∙◌, ap, subst}
+use Rattle.std.proofs.Common.{◌≡◌, ◌↔◌, ◌⊎◌, ℕ, inl, inr, List, [], ◌∷◌, Contains, refl, sym, ◌∙◌, ap, subst}
 use Rattle.std.specs.Prelude.{map}
-use Rattle.std.specs.BTreeMap.{get, IsOrdered}
+use Rattle.std.specs.BTreeMap.{IsOrdered}
 use Rattle.cs_base.proofs.Members.{contains_nil, contains_here, contains_there, contains_cases, contains_map, contains_from_map}
 use Rattle.changes.specs.declared.Change.{Change}
 use Rattle.changes.specs.declared.Held.{Held}
 use Rattle.changes.specs.declared.Mutation.{Mutation}
 use Rattle.changes.specs.declared.Partition.{Partition}
-use Rattle.changes.specs.Contents.{Either, IsContent, IsMergeOf}
+use Rattle.changes.specs.Contents.{Either, IsContent}
 use Rattle.changes.specs.Order.{partition_cmp}
 use Rattle.changes.proofs.Partitions.{same_or_apart}
 use Rattle.change_laws.proofs.Contents.{IsContent-same, IsContent-onto, Either_swap}
@@ -22,8 +22,8 @@ use Rattle.durable_state.proofs.Kept.{kept_is_one}
 use Rattle.durable_state.proofs.Together.{taken_together}
 use Rattle.replica.specs.Kept.{ArriveAllAt, PurgeNothing}
 use Rattle.list_replica.specs.declared.staging.Staged.{Staged}
-use Rattle.list_replica.specs.Stores.{stored, stored_if, stored_at, all_of}
-use Rattle.list_replica.specs.Staging.{Map, mutations, held_at, IsStagedAt, IsStaging, Comes, AllCome}
+use Rattle.list_replica.specs.Stores.{stored_if, stored_at, all_of}
+use Rattle.list_replica.specs.Staging.{Map, mutations, held_at, IsStagedAt, IsStaging, AllCome}
 use Rattle.list_replica.proofs.Growing.{Shown}
 use Rattle.list_replica.proofs.Items.{projected}
 use Rattle.list_replica.proofs.Looking.{holds_from, holds_to, stored_from, stored_to}

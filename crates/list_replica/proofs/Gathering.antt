@@ -4,7 +4,7 @@ use Rattle.std.specs.Prelude.{map, IsSomeAnd}
 use Rattle.std.specs.BTreeMap.{get}
 use Rattle.std.proofs.lemmas.List.{drop_more}
 use Rattle.std.proofs.lemmas.List.Elements.{Contains-append_cases, Contains-append_left, Contains-append_right}
-use Rattle.cs_base.proofs.Members.{contains_nil, contains_here, contains_there, contains_cases, contains_push, contains_filter_map, contains_from_filter_map, filter_map_more}
+use Rattle.cs_base.proofs.Members.{contains_nil, contains_here, contains_there, contains_cases, contains_filter_map, filter_map_more}
 use Rattle.changes.specs.declared.Held.{Held}
 use Rattle.changes.specs.declared.Mutation.{Mutation}
 use Rattle.changes.specs.declared.Partition.{Partition}

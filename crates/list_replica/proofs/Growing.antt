@@ -1,21 +1,20 @@
 -- What is held of partitions behind an entry, told before it is committed.
-use Rattle.std.proofs.Common.{◌≡◌, ◌↔◌, ℕ, ◌^◌, ◌<◌, ◌≤◌, inl, inr, List, [], ◌∷◌, ◌++◌, Contains, refl, sym, ◌∙◌, ap, subst}
+use Rattle.std.proofs.Common.{◌↔◌, inl, inr, List, Contains, sym, subst}
 use Rattle.cs_base.proofs.Members.{contains_map, contains_from_map}
 use Rattle.std.specs.BTreeMap.{IsOrdered}
 use Rattle.changes.specs.declared.Change.{Change}
 use Rattle.changes.specs.declared.Held.{Held}
 use Rattle.changes.specs.declared.Partition.{Partition}
 use Rattle.changes.specs.Contents.{Either, IsContent, IsMergeOf}
-use Rattle.changes.specs.Lengths.{changes_length}
 use Rattle.changes.specs.Order.{partition_cmp}
 use Rattle.change_laws.proofs.Contents.{IsContent-same, Either_swap}
 use Rattle.row_change.specs.declared.entry.LogItem.{LogItem}
 use Rattle.durable_state.specs.State.{Stored, Durable, change_of, changes_of, Holds}
-use Rattle.durable_state.specs.Taking.{IsHeldOf, IsTouched, InOne}
+use Rattle.durable_state.specs.Taking.{IsHeldOf, InOne}
 use Rattle.durable_state.specs.Keeping.{Commits}
 use Rattle.durable_state.proofs.Together.{content_under}
 use Rattle.replica.specs.Kept.{PurgeNothing}
-use Rattle.replica.specs.Lengths.{IsOf, StaysSmall, GrowsTooLarge, AllStaySmall, IsFirstTooLarge}
+use Rattle.replica.specs.Lengths.{StaysSmall, GrowsTooLarge, AllStaySmall, IsFirstTooLarge}
 use Rattle.list_replica.specs.Stores.{all_of}
 use Rattle.list_replica.specs.Staging.{Map, mutations, held_at, IsStaging, StaysWithin, GrowsPast, AllStayWithin, IsFirstPast}
 use Rattle.list_replica.specs.declared.staging.Staged.{Staged}

@@ -1,5 +1,5 @@
 -- What an item makes of what the entries before it made.
-use Rattle.std.proofs.Common.{◌≡◌, ◌≢◌, ◌↔◌, ℕ, ◌==◌, ◌++◌, inl, inr, Bool, true, false, Option, Some, List, [], ◌∷◌, Contains, refl, sym, ◌∙◌, ap, subst, eqb-true}
+use Rattle.std.proofs.Common.{◌≡◌, ◌≢◌, ◌↔◌, ℕ, ◌==◌, ◌++◌, inl, inr, Bool, true, false, Some, List, [], ◌∷◌, Contains, refl, sym, ◌∙◌, ap, subst, eqb-true}
 use Rattle.std.specs.Prelude.{map, Vec, nat_lt, if◌then◌else◌, filter, not}
 use Rattle.std.specs.declared.alloc.Global.{Global}
 use Rattle.std.specs.BTreeMap.{BTreeMap, get, IsOrdered}
@@ -26,7 +26,7 @@ use Rattle.durable_state.specs.declared.parts.LastNumber.{LastNumber}
 use Rattle.durable_state.specs.declared.parts.RowAt.{RowAt}
 use Rattle.durable_state.specs.State.{Stored, Durable, IsSameKept, row_at, hints_of, last_of, changes_of, formatted, Holds}
 use Rattle.durable_state.specs.Taking.{HasOneArrival, LetsGo, TakesIn, ArriveAt}
-use Rattle.durable_state.specs.Keeping.{TakesItem, Commits, SetsRow, with_last, with_given, without_hint}
+use Rattle.durable_state.specs.Keeping.{TakesItem, with_last, without_hint}
 use Rattle.durable_state.proofs.Entries.{commits_parts}
 use Rattle.durable_state.proofs.Kept.{kept_is_one, last_filter}
 use Rattle.replica.specs.declared.kept.Kept.{Kept}

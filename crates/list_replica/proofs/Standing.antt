@@ -1,19 +1,17 @@
 -- What the file of a log stands for, and what crashes leave of it.
-use Rattle.std.proofs.Common.{◌≡◌, inl, inr, ℕ, Option, List, [], ◌∷◌, ◌++◌, refl, sym, ◌∙◌, subst, arith}
+use Rattle.std.proofs.Common.{◌≡◌, inl, inr, ℕ, List, [], ◌∷◌, ◌++◌, refl, sym, subst}
 use Rattle.std.specs.Prelude.{map}
 use Rattle.std.proofs.lemmas.List.{map-append}
 use Rattle.cs_store.specs.Disk.{Disk, IsSettled, Stays, Passes, LeavesOnly}
 use Rattle.cs_store.proofs.Crashes.{first_call, files_left, all_weaker}
-use Rattle.commit_log.specs.Format.{ReadsEntries, IsOneReading, Adds, IsBeforeOrAfter, ReadsAlike}
+use Rattle.commit_log.specs.Format.{ReadsEntries, Adds, IsBeforeOrAfter, ReadsAlike}
 use Rattle.row_change.specs.declared.entry.LogEntry.{LogEntry}
 use Rattle.row_change.specs.declared.entry.LogItem.{LogItem}
 use Rattle.durable_state.specs.State.{Durable, IsSameKept, formatted}
-use Rattle.durable_state.specs.Taking.{HasOneArrival}
 use Rattle.durable_state.specs.Keeping.{Commits, IsWithOrWithout}
-use Rattle.durable_state.proofs.Kept.{kept_is_one}
 use Rattle.durable_state.proofs.Making.{each_entry_makes}
 use Rattle.durable_state.proofs.Same.{same_itself}
-use Rattle.replica.specs.Finding.{StandFor, AlwaysLeaves, IsSafe}
+use Rattle.replica.specs.Finding.{StandFor, AlwaysLeaves}
 use Rattle.replica.specs.Calls.{CommitEach}
 use Rattle.replica.proofs.Fronts.{each_more}
 use Rattle.list_replica.specs.Laws.{ReadsOnce, stands_alike}

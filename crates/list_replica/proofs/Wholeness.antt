@@ -1,5 +1,5 @@
 -- The replica stands on its disk through its calls.
-use Rattle.std.proofs.Common.{◌≡◌, ◌↔◌, Contains, ℕ, ◌+◌, ◌≤◌, Option, Some, None, List, [], ◌∷◌, ◌++◌, refl, sym, ◌∙◌, ap, subst, arith}
+use Rattle.std.proofs.Common.{◌≡◌, ◌↔◌, Contains, ℕ, ◌≤◌, Option, None, List, [], ◌∷◌, ◌++◌, sym, ◌∙◌, subst}
 use Rattle.std.specs.Prelude.{IfSome, IsTrue}
 use Rattle.cs_base.specs.declared.range.Range.{Range}
 use Rattle.cs_base.specs.Ring.{in_range}
@@ -25,7 +25,7 @@ use Rattle.list_replica.specs.Standing.{StandsFor}
 use Rattle.list_replica.specs.Stores.{all_of}
 use Rattle.list_replica.specs.Wholeness.{IsOnDisk, IsWhole}
 use Rattle.list_replica.proofs.Keeping.{kept_more, entries_push}
-use Rattle.list_replica.specs.Laws.{settled_is_safe, stands_kept, whole_is_safe}
+use Rattle.list_replica.specs.Laws.{stands_kept, whole_is_safe}
 use Rattle.list_replica.proofs.Growing.{Shown, held_as}
 use Rattle.list_replica.proofs.Standing.{append_leaves, load_leaves, reserve_leaves}
 

@@ -1,4 +1,4 @@
-use Rattle.std.proofs.Common.{List, arith, sym, ◌∙◌, subst}
+use Rattle.std.proofs.Common.{List, arith, ◌∙◌, subst}
 use Rattle.std.proofs.lemmas.List.{take_all}
 use Rattle.row_change.specs.declared.entry.LogItem.{LogItem}
 use Rattle.list_replica.proofs.Arriving.{NoneArrives, none_at}

@@ -1,9 +1,7 @@
-use Rattle.std.proofs.Common.{◌≡◌, ◌∙◌, ◌++◌, ◌∷◌, List, [], sym, subst, Contains}
+use Rattle.std.proofs.Common.{◌≡◌, ◌∙◌, []}
 use Rattle.std.specs.Vec.Iter.{into_iter_items, into_iter_len}
-use Rattle.partition_content.specs.declared.Arrived.{Arrived}
-use Rattle.list_replica.specs.Removing.{is_other}
 use Rattle.list_replica.proofs.Gathering.{split_more, nothing_left, all_taken}
-use Rattle.list_replica.proofs.Leaving.{left_none, left_more, without_from, among_all, AreAll}
+use Rattle.list_replica.proofs.Leaving.{left_none, left_more, without_from, among_all}
 use Rattle.list_replica.proofs.removing.without.Goals as goal
 
 pub loop-arrived-init : goal.loop-arrived-init

@@ -1,5 +1,4 @@
 use Rattle.std.proofs.Common.{◌≡◌, ◌++◌, map}
-use Rattle.std.specs.BTreeMap.{IsOrdered}
 use Rattle.list_replica.specs.Rows.{row_entry}
 use Rattle.list_replica.proofs.replay.list_rows.Given as goal
 

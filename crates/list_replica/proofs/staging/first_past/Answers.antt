@@ -1,10 +1,9 @@
-use Rattle.std.proofs.Common.{◌≡◌, ◌<◌, ◌∙◌, None, Some, List, length, take, drop, ◌+◌, arith, sym, ap, subst}
+use Rattle.std.proofs.Common.{◌<◌, List, length, take, drop, ◌+◌, arith, sym, subst}
 use Rattle.std.proofs.lemmas.List.{take_all}
-use Rattle.std.specs.Option.{option_copied}
 use Rattle.cs_base.proofs.Members.{front_more, contains_at}
 use Rattle.row_change.specs.declared.entry.LogItem.{LogItem}
-use Rattle.list_replica.specs.Staging.{AllStayWithin, mutation_of}
-use Rattle.list_replica.proofs.Gathering.{within_none, within_still, within_more, first_one, staged_for, split_at}
+use Rattle.list_replica.specs.Staging.{AllStayWithin}
+use Rattle.list_replica.proofs.Gathering.{within_still, within_more, first_one, staged_for, split_at}
 use Rattle.list_replica.proofs.staging.first_past.Goals.{in-Some+else-not-fits_at, in_default}
 use Rattle.list_replica.proofs.staging.first_past.Goals as goal
 

@@ -1,5 +1,5 @@
-use Rattle.std.proofs.Common.{◌∙◌, List, take, arith, refl, sym, ap, subst, inl, inr, Contains}
-use Rattle.std.proofs.lemmas.Bool.{both_ways, false≢true}
+use Rattle.std.proofs.Common.{◌∙◌, List, take, arith, sym, ap, subst, inl, inr, Contains}
+use Rattle.std.proofs.lemmas.Bool.{both_ways}
 use Rattle.std.proofs.lemmas.List.{take_all}
 use Rattle.std.proofs.lemmas.List.Elements.{Contains-push_cases}
 use Rattle.cs_base.proofs.Members.{front_more, contains_at, contains_nil}

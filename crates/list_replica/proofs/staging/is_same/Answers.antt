@@ -1,5 +1,4 @@
-use Rattle.std.proofs.Common.{◌∙◌, sym, ap}
-use Rattle.std.specs.Ordering.{is_eq}
+use Rattle.std.proofs.Common.{◌∙◌, sym}
 use Rattle.changes.specs.Totals.{partition_ties}
 use Rattle.list_replica.proofs.Looking.{same_partition, is_itself}
 use Rattle.list_replica.proofs.staging.is_same.Goals as goal

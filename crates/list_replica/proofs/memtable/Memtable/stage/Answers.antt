@@ -1,7 +1,6 @@
-use Rattle.std.proofs.Common.{List, refl, sym, subst}
+use Rattle.std.proofs.Common.{refl, sym, subst}
 use Rattle.changes.specs.declared.Partition.{Partition}
 use Rattle.replica.specs.Lengths.{IsFirstTooLarge}
-use Rattle.list_replica.specs.declared.staging.Staged.{Staged}
 use Rattle.list_replica.specs.Memtables.{kept_in}
 use Rattle.list_replica.proofs.Sound.{sound_still, sound_stays_small, sound_first_too_large}
 use Rattle.list_replica.proofs.memtable.Memtable.stage.Goals as goal

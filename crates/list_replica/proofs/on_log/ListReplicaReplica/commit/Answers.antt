@@ -1,4 +1,4 @@
-use Rattle.std.proofs.Common.{ℕ, ◌≤◌, ◌∙◌, Option, None, arith, sym, subst}
+use Rattle.std.proofs.Common.{ℕ, ◌≤◌, Option, arith, sym, subst}
 use Rattle.std.specs.Prelude.{IfSome}
 use Rattle.list_replica.proofs.Wholeness.{leaves_appended, whole_appended, safe_appended, keeps_appended}
 use Rattle.list_replica.proofs.on_log.ListReplicaReplica.commit.Goals as goal

@@ -1,7 +1,7 @@
-use Rattle.std.proofs.Common.{◌≡◌, ◌∙◌, Err, arith, ap, sym, subst}
+use Rattle.std.proofs.Common.{◌∙◌, Err, arith, ap, sym, subst}
 use Rattle.std.proofs.lemmas.Result.{IfOk-weaker}
 use Rattle.commit_log.specs.declared.error.LogError.{LogError}
-use Rattle.durable_state.specs.State.{Durable, IsSameKept}
+use Rattle.durable_state.specs.State.{IsSameKept}
 use Rattle.replica.specs.Finding.{AlwaysLeaves}
 use Rattle.list_replica.specs.Memtables.{committed}
 use Rattle.list_replica.specs.Standing.{StandsFor}

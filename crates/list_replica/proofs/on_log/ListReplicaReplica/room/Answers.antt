@@ -1,4 +1,4 @@
-use Rattle.std.proofs.Common.{ap, refl, sym, subst}
+use Rattle.std.proofs.Common.{ap}
 use Rattle.list_replica.specs.Keeping.{kept_by}
 use Rattle.list_replica.proofs.Wholeness.{leaves_same, leaves_reserved}
 use Rattle.list_replica.proofs.on_log.ListReplicaReplica.room.Goals as goal
