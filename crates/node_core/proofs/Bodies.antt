@@ -35,6 +35,7 @@ use Rattle.node_core.specs.declared.work.Work.{Work}
 use Rattle.node_core.specs.Hearing.{Moves, AckMoves, ReplyMoves}
 use Rattle.node_core.specs.Working.{state_at, effects_given, weight_of, weight, BodyFits, IsSlotOf, IsDataAt, IsSound, with_slot}
 use Rattle.node_core.specs.Moving.{IsReadFor, TakesBody, AreOf, IsHeard, replies}
+use Rattle.node_core.specs.Slots.{IsNew}
 use Rattle.node_core.proofs.Slots.{some_one}
 
 -- ---- what an acknowledgement and a reply give
@@ -151,8 +152,7 @@ one_part p q part a b = some_one p q (sym a ∙ b)
 pub body_moves : (b : Base) (d : Durable) (w w' : Work) (a : Asker) (body : Body) (part : Option (List Held)) (g : Given) → w.request ≡ a.request → TakesBody b w a body part g w' → IsReadFor w.items d body part → BodyMoves b d w a body g w'
 body_moves b d w w' a (Write m) part g request (gives, is) read d' h =
     let parts = commits_parts w.items (Data w.time m ∷ []) d d' (subst (λ (xs : List LogItem). Commits xs d d') (ap (λ (x : Work). x.items) is) h) in
-    let rest = parts.2 in
-    (
+    let rest = parts.2 in (
       parts.0,
       parts.1,
       subst (λ (x : Durable). HearsBody b.setting (asks_as a) (Write m) (state_at b parts.0 w) (effects_given g) (state_at b x w')) (sym rest.2) (wrote b w w' a m g parts.0 rest.0 rest.1 gives is),
@@ -163,8 +163,7 @@ body_moves b d w w' a WriteAck part g request (moves, is) read d' h = (
   subst (λ (x : Work). HearsBody b.setting (asks_as a) WriteAck (state_at b d' w) (effects_given g) (state_at b d' x)) (sym is) (acked b w a.from a.request g d' w'.write request moves),
 )
 body_moves b d w w' a (Read q) part g request ((p, there, gives), is) (p', here, answers) d' h =
-    let commits = same_items w w' w d d' is refl h in
-    (
+    let commits = same_items w w' w d d' is refl h in (
       d',
       commits,
       (p, subst (λ (x : List Held). IsReplyTo (changes_of d'.content) q x) (one_part p' p part here there) (answers d' commits), gives, ap (λ (x : Work). state_at b d' x) is),
@@ -208,17 +207,24 @@ all_more : {X : Type 0} (P : X → Type 0) (xs : List X) (x : X) → AllByRecurs
 all_more {X} P [] x all last = (last, tt)
 all_more {X} P (y ∷ ys) x all last = (all.0, all_more P ys x all.1 last)
 
-sound_with : (b : Base) (w : Work) (write : Slot OpenWrite) (read : Slot OpenRead) → IsSound b w → IsSlotOf w.request b.writes.entries write → IsSlotOf w.request b.reads.entries read → IsSound b (record w { write = write; read = read })
-sound_with b w write read s at_write at_read = record { write = at_write; read = at_read; queue = s.queue; items = s.items }
+sound_with : (b : Base) (w : Work) (write : Slot OpenWrite) (read : Slot OpenRead) → IsSound b w → IsSlotOf w.request b.writes.entries write → IsSlotOf w.request b.reads.entries read → (IsNew write → IsNew w.write) → (IsNew read → IsNew w.read)
+    → IsSound b (record w { write = write; read = read })
+sound_with b w write read s at_write at_read new_write new_read = record {
+  write = at_write;
+  read = at_read;
+  queue = s.queue;
+  items = s.items;
+  early = record { write = λ h. s.early.write (new_write h); read = λ h. s.early.read (new_read h) };
+}
 
 body_sound : (b : Base) (w w' : Work) (a : Asker) (body : Body) (part : Option (List Held)) (g : Given) → w.request ≡ a.request → BodyFits body → IsSound b w → TakesBody b w a body part g w' → IsSound b w'
 body_sound b w w' a (Write m) part g request fits s (gives, is) =
-    subst (λ (x : Work). IsSound b x) (sym is) (record { write = s.write; read = s.read; queue = s.queue; items = all_more (IsDataAt w.time) w.items (Data w.time m) s.items (refl, fits) })
+    subst (λ (x : Work). IsSound b x) (sym is) (record { write = s.write; read = s.read; queue = s.queue; items = all_more (IsDataAt w.time) w.items (Data w.time m) s.items (refl, fits); early = record { write = s.early.write; read = s.early.read } })
 body_sound b w w' a WriteAck part g request fits s (moves, is) =
-    subst (λ (x : Work). IsSound b x) (sym is) (sound_with b w w'.write w.read s (subst (λ (id : ReqId). IsSlotOf id b.writes.entries w'.write) (sym request) moves.back) s.read)
+    subst (λ (x : Work). IsSound b x) (sym is) (sound_with b w w'.write w.read s (subst (λ (id : ReqId). IsSlotOf id b.writes.entries w'.write) (sym request) moves.back) s.read moves.new (λ h. h))
 body_sound b w w' a (Read q) part g request fits s (gives, is) = subst (λ (x : Work). IsSound b x) (sym is) s
 body_sound b w w' a (ReadReply content) part g request fits s (moves, is) =
-    subst (λ (x : Work). IsSound b x) (sym is) (sound_with b w w.write w'.read s s.write (subst (λ (id : ReqId). IsSlotOf id b.reads.entries w'.read) (sym request) moves.back))
+    subst (λ (x : Work). IsSound b x) (sym is) (sound_with b w w.write w'.read s s.write (subst (λ (id : ReqId). IsSlotOf id b.reads.entries w'.read) (sym request) moves.back) (λ h. h) moves.new)
 
 -- ---- a body that is heard, and one that is too old
 
@@ -262,7 +268,7 @@ heard_old b honest d w h g old s sends entries = record {
     d',
     commits,
     subst (λ (x : Bool). MatchBool x ((effects_given g ≡ nothing) × (state_at b d' w ≡ state_at b d' w)) (HearsBody b.setting (asker_of (incoming h)) h.body (state_at b d' w) (effects_given g) (state_at b d' w))) (sym old)
-    (ap (λ (xs : List Outbound). let o : Effects = record { sends = xs; entries = g.entries } in o) sends ∙ ap (λ (xs : List Entry). let o : Effects = record { sends = []; entries = xs } in o) entries, refl),
+        (ap (λ (xs : List Outbound). let o : Effects = record { sends = xs; entries = g.entries } in o) sends ∙ ap (λ (xs : List Entry). let o : Effects = record { sends = []; entries = xs } in o) entries, refl),
   );
   goes_on = record {
     time = refl;

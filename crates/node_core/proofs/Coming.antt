@@ -27,7 +27,7 @@ use Rattle.node_core.proofs.Sending.{messages_append}
 -- what goes to the node itself is what it hears
 own_cons : (b : Bool) (me : ℕ) (x : Outbound) (xs : List Outbound) → own_sends me xs ≡ own_acts me (own_sent me xs)
     → (if b then own_act me x ∷ own_sends me xs else own_sends me xs) ≡ own_acts me (cond b (x ∷ own_sent me xs) (own_sent me xs))
-own_cons true me x xs rest = ap (λ (as : List Act). own_act me x ∷ as) rest
+own_cons true me x xs rest = ap (λ (acts : List Act). own_act me x ∷ acts) rest
 own_cons false me x xs rest = rest
 
 pub own_heard : (me : ℕ) (xs : List Outbound) → own_sends me xs ≡ own_acts me (own_sent me xs)
@@ -82,11 +82,11 @@ own_more b d s matters left pending x w mid w' g come moves on sent d' commits =
     let made = come m moved.1 in
     let more = grown b m d' w mid w' (own_act b.me x) g made.deeds made.messages made.entries made.items on sent in
     let acts : own_acts b.me pending ++ own_sends b.me g.sends ≡ own_acts b.me (pending ++ own_sent b.me g.sends) =
-    ap (λ (as : List Act). own_acts b.me pending ++ as) (own_heard b.me g.sends) ∙ sym (map-append (own_act b.me) pending (own_sent b.me g.sends)) in
+    ap (λ (acts : List Act). own_acts b.me pending ++ acts) (own_heard b.me g.sends) ∙ sym (map-append (own_act b.me) pending (own_sent b.me g.sends)) in
     record {
       deeds = made.deeds ++ deed_of b m d' w (own_act b.me x) g mid ∷ [];
       moves = subst (λ (t : NodeState). Chain b.setting b.me s matters (made.deeds ++ deed_of b m d' w (own_act b.me x) g mid ∷ []) t (own_acts b.me (pending ++ own_sent b.me g.sends)) left) (sym (sent_state b d' mid w' g sent))
-          (subst (λ (as : List Act). Chain b.setting b.me s matters (made.deeds ++ deed_of b m d' w (own_act b.me x) g mid ∷ []) (state_at b d' mid) as left) acts
+          (subst (λ (acts : List Act). Chain b.setting b.me s matters (made.deeds ++ deed_of b m d' w (own_act b.me x) g mid ∷ []) (state_at b d' mid) acts left) acts
           (own made.deeds (state_at b m w) (state_at b d' mid) (own_act b.me x) (own_acts b.me pending) left (effects_given g) made.moves moved.2));
       messages = more.messages;
       entries = more.entries;
@@ -104,7 +104,7 @@ matter_more b d s matters left a w mid w' g come moves on sent d' commits =
     record {
       deeds = made.deeds ++ deed_of b m d' w a g mid ∷ [];
       moves = subst (λ (t : NodeState). Chain b.setting b.me s matters (made.deeds ++ deed_of b m d' w a g mid ∷ []) t (own_acts b.me (own_sent b.me g.sends)) left) (sym (sent_state b d' mid w' g sent))
-          (subst (λ (as : List Act). Chain b.setting b.me s matters (made.deeds ++ deed_of b m d' w a g mid ∷ []) (state_at b d' mid) as left) (own_heard b.me g.sends)
+          (subst (λ (acts : List Act). Chain b.setting b.me s matters (made.deeds ++ deed_of b m d' w a g mid ∷ []) (state_at b d' mid) acts left) (own_heard b.me g.sends)
           (matter made.deeds (state_at b m w) (state_at b d' mid) a left (effects_given g) made.moves moved.2));
       messages = more.messages;
       entries = more.entries;

@@ -5,3 +5,14 @@ mod Asking
 mod Bodies
 mod Reading
 mod Coming
+mod Beginning
+mod Settling
+mod Taking
+mod Looking
+mod Entry
+mod Stepping
+mod Requests
+mod Answered
+mod Running
+mod Refusing
+mod Ending

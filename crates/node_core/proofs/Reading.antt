@@ -44,6 +44,7 @@ within_of q S T part s all to from slice merged =
     gather : (x : Held) → Either (Within q.from q.upto T) (Contains part) x → Within q.from q.upto (Either S T) x
     gather x (inl h) = (inr h.0, h.1)
     gather x (inr h) = let w = to x h in (inl w.0, w.1)
+
     part_it : (x : Held) → Within q.from q.upto (Either S T) x → Either (Within q.from q.upto T) (Contains part) x
     part_it x (inl h, meets) = inr (from x (h, meets))
     part_it x (inr h, meets) = inl (h, meets)
@@ -60,8 +61,7 @@ part_behind m q part s all same slice merged content content' takes answers x =
     let answers_m = subst (λ (p : Partition). (y : Held) → Contains part y ↔ (Holds content p y × MeetsBounds q.from q.upto y.place)) (sym same) answers in
     let of_all = content_is_tops (Within q.from q.upto U) all (within_of q (Holds content m.partition) (Contains m.changes) part s all (λ y. (answers_m y).0) (λ y. (answers_m y).1) slice merged) x in
     let of_kept = content_is_tops U takes.kept takes.merged x in
-    let held = takes.held x in
-    (
+    let held = takes.held x in (
       λ h. let top = top_within q U x (of_all.0 h) in (subst (λ (p : Partition). Holds content' p x) same (held.0 (of_kept.1 top.0)), top.1),
       λ h. of_all.1 (within_top q U x (of_kept.0 (held.1 (subst (λ (p : Partition). Holds content' p x) (sym same) h.0))) h.1),
     )

@@ -18,7 +18,7 @@ use Rattle.node_core.specs.declared.slot.Found.{Found}
 use Rattle.node_core.specs.declared.slot.Slot.{Slot}
 use Rattle.node_core.specs.declared.slot.Slot.TheVariants.{Untouched, New, Old, Gone}
 use Rattle.node_core.specs.declared.work.Given.{Given}
-use Rattle.node_core.specs.Slots.{IsFound, slot_after}
+use Rattle.node_core.specs.Slots.{IsFound, IsNew, slot_after}
 use Rattle.node_core.specs.Working.{with_slot, IsSlotOf, effects_given}
 use Rattle.node_core.specs.Hearing.{Opens, Moves}
 
@@ -116,6 +116,11 @@ gone_is_none {A} id m ordered =
     lookup-remove_entry laws (is_at (request_cmp id)) (λ x y same. laws.congr id x y same) id m.entries (IsDistinct-from_sorted request_cmp (keys_of m.entries) ordered)
     ∙ ap (λ (b : Bool). cond b None (open_at m.entries id)) (request_itself id)
 
+-- a request that was open before does not begin
+new_old : {A : Type 0} (ended : Bool) (a : A) → IsNew (slot_after false ended a) → ⊥
+new_old {A} true a h = h
+new_old {A} false a h = h
+
 abbrev opens_as : {A : Type 0} → ReqId → List (ReqId × A) → Slot A → Found A → Type 0
 opens_as {A} id xs slot f = Opens id xs slot f
 
@@ -124,11 +129,13 @@ opens_new {A} id xs a none = record {
   at = insert_found request_cmp xs id a (request_itself id);
   after = after_it;
   back = back_it;
+  new = λ ended b h. tt;
 }
   where
     after_it : (ended : Bool) (b : A) → with_slot id (slot_after true ended b) xs ≡ after_move ended id b (insert_entry request_cmp xs id a)
     after_it true b = sym (remove_inserted request_cmp xs id a (request_itself id) none)
     after_it false b = sym (insert_set request_cmp xs id a b (request_itself id))
+
     back_it : (ended : Bool) (b : A) → IsSlotOf id xs (slot_after true ended b)
     back_it true b = tt
     back_it false b = none
@@ -138,21 +145,24 @@ opens_old {A} id xs a v there = record {
   at = found_written (is_at (request_cmp id)) xs a v there;
   after = after_it;
   back = back_it;
+  new = new_old;
 }
   where
     after_it : (ended : Bool) (b : A) → with_slot id (slot_after false ended b) xs ≡ after_move ended id b (set_value (is_at (request_cmp id)) xs a)
     after_it true b = sym (remove_written (is_at (request_cmp id)) xs a)
     after_it false b = sym (set_written (is_at (request_cmp id)) xs a b)
+
     back_it : (ended : Bool) (b : A) → IsSlotOf id xs (slot_after false ended b)
     back_it true b = tt
     back_it false b = (v, there)
 
 pub opens_before : {A : Type 0} (id : ReqId) (xs : List (ReqId × A)) (a : A) → open_at xs id ≡ Some a → Opens id xs Untouched (record { now = a; is_new = false })
-opens_before {A} id xs a there = record { at = there; after = after_it; back = back_it }
+opens_before {A} id xs a there = record { at = there; after = after_it; back = back_it; new = new_old }
   where
     after_it : (ended : Bool) (b : A) → with_slot id (slot_after false ended b) xs ≡ after_move ended id b xs
     after_it true b = refl
     after_it false b = refl
+
     back_it : (ended : Bool) (b : A) → IsSlotOf id xs (slot_after false ended b)
     back_it true b = tt
     back_it false b = (a, there)
@@ -194,6 +204,7 @@ moves_made {A} Step id xs slot slot' f turn a g opens step is sends entries = re
   moves = subst (λ (s : Slot A). AtRequest Step id (with_slot id slot xs) turn (with_slot id s xs)) (sym is) (takes_some Step id xs slot f turn a opens step);
   gives = cc;
   back = subst (λ (s : Slot A). IsSlotOf id xs s) (sym is) (opens.back turn.ended a);
+  new = subst (λ (s : Slot A). IsNew s → IsNew slot) (sym is) (opens.new turn.ended a);
 }
 
 pub moves_none : {A : Type 0} (Step : A → Move → A → Type 0) (id : ReqId) (xs : List (ReqId × A)) (slot slot' : Slot A) (g : Given) → open_at (with_slot id slot xs) id ≡ None → slot' ≡ slot → IsSlotOf id xs slot → g.sends ≡ [] → g.entries ≡ []
@@ -204,4 +215,5 @@ moves_none {A} Step id xs slot slot' g none same is sends entries = record {
       (subst (λ (o : Option A). Takes Step id (with_slot id slot xs) o quiet (with_slot id slot xs)) (sym none) (refl, refl));
   gives = cc;
   back = subst (λ (s : Slot A). IsSlotOf id xs s) (sym same) is;
+  new = subst (λ (s : Slot A). IsNew s → IsNew slot) (sym same) (λ h. h);
 }

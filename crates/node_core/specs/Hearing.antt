@@ -11,7 +11,7 @@ use Rattle.node_steps.specs.Reads.{HearsReply}
 use Rattle.node_core.specs.declared.slot.Found.{Found}
 use Rattle.node_core.specs.declared.slot.Slot.{Slot}
 use Rattle.node_core.specs.declared.work.Given.{Given}
-use Rattle.node_core.specs.Slots.{slot_after}
+use Rattle.node_core.specs.Slots.{slot_after, IsNew}
 use Rattle.node_core.specs.Working.{with_slot, IsSlotOf, effects_given}
 
 -- the request that is about to move is the open one; put back when it has moved, it stands as after the move
@@ -19,6 +19,7 @@ pub record Opens {A : Type 0} (id : ReqId) (xs : List (ReqId × A)) (slot : Slot
   pub at : open_at (with_slot id slot xs) id ≡ Some f.now
   pub after : (ended : Bool) (a : A) → with_slot id (slot_after f.is_new ended a) xs ≡ after_move ended id a (with_slot id slot xs)
   pub back : (ended : Bool) (a : A) → IsSlotOf id xs (slot_after f.is_new ended a)
+  pub new : (ended : Bool) (a : A) → IsNew (slot_after f.is_new ended a) → IsNew slot
 
 abbrev pub IsOpened : {A : Type 0} → ReqId → List (ReqId × A) → Slot A → Option (Found A) → Slot A → Type 0
 IsOpened {A} id xs slot None slot' = (open_at (with_slot id slot xs) id ≡ None) × (slot' ≡ slot)
@@ -30,6 +31,7 @@ pub record Moves {A : Type 0} (Step : A → Move → A → Type 0) (id : ReqId) 
   pub moves : AtRequest Step id (with_slot id slot xs) turn (with_slot id slot' xs)
   pub gives : effects_given g ≡ effects_of turn
   pub back : IsSlotOf id xs slot'
+  pub new : IsNew slot' → IsNew slot
 
 abbrev pub AckMoves : Setting → ReqId → ℕ → List (ReqId × OpenWrite) → Slot OpenWrite → Given → Slot OpenWrite → Type 0
 AckMoves c id from xs slot g slot' = Moves (HearsAck c id from) id xs slot g slot'

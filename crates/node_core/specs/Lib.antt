@@ -4,3 +4,5 @@ pub mod Working
 pub mod Hearing
 pub mod Asking
 pub mod Moving
+pub mod Opening
+pub mod Memory

@@ -1,5 +1,5 @@
 -- The moves of a step, one after another, as its code makes them.
-use Rattle.std.specs.Prelude.{◌≡◌, ◌≤◌, ◌<◌, ◌+◌, ℕ, Option, Some, None, List, [], ◌∷◌, ◌++◌, filter, flat_map, Contains}
+use Rattle.std.specs.Prelude.{◌≡◌, ◌≤◌, ◌<◌, ◌+◌, if◌then◌else◌, ℕ, Bool, Option, Some, None, List, [], ◌∷◌, ◌++◌, length, filter, flat_map, Contains}
 use Rattle.std.specs.List.{AllByRecursion}
 use Rattle.cs_base.specs.declared.ids.ReqId.{ReqId}
 use Rattle.changes.specs.declared.Change.{Change}
@@ -9,17 +9,22 @@ use Rattle.changes.specs.declared.Query.{Query}
 use Rattle.cs_store.specs.Disk.{Disk}
 use Rattle.row_change.specs.declared.entry.LogItem.{LogItem}
 use Rattle.row_change.specs.declared.entry.LogItem.TheVariants.{Data}
+use Rattle.peer_messages.specs.declared.chronicle.Entry.{Entry}
 use Rattle.peer_messages.specs.declared.event.Ask.{Ask}
+use Rattle.peer_messages.specs.declared.event.What.{What}
+use Rattle.peer_messages.specs.declared.event.What.TheVariants.{Client, Deliver, Alive, Flush, Tick}
 use Rattle.peer_messages.specs.declared.message.Body.{Body}
 use Rattle.peer_messages.specs.declared.message.Body.TheVariants.{Write, WriteAck, Read, ReadReply}
 use Rattle.peer_messages.specs.declared.outcome.Outbound.{Outbound}
+use Rattle.peer_messages.specs.Settings.{marked}
 use Rattle.durable_state.specs.State.{Durable, changes_of}
 use Rattle.durable_state.specs.Taking.{TakesIn}
 use Rattle.durable_state.specs.Keeping.{Commits}
 use Rattle.node_steps.specs.State.{NodeState}
 use Rattle.node_steps.specs.Effects.{Effects}
+use Rattle.node_steps.specs.Fitting.{mark_fits}
 use Rattle.node_steps.specs.Replicas.{IsAnswerTo, IsReplyTo, replies as replies_to}
-use Rattle.node_steps.specs.Acts.{Act, Asks, Does, Deed, Chain}
+use Rattle.node_steps.specs.Acts.{Act, Rises, Hears, Asks, Marks, Does, Deed, Chain, request_at}
 use Rattle.node_steps.specs.Steps.{messages_of, sends_of, entries_of}
 use Rattle.node_steps.specs.Keeping.{kept_by, kept_in}
 use Rattle.node_steps.specs.Stops.{is_entered_at_stop}
@@ -30,7 +35,7 @@ use Rattle.node_core.specs.declared.work.Given.{Given}
 use Rattle.node_core.specs.declared.work.Heard.{Heard}
 use Rattle.node_core.specs.declared.work.Work.{Work}
 use Rattle.node_core.specs.Hearing.{AckMoves, ReplyMoves}
-use Rattle.node_core.specs.Working.{state_at, effects_given, own_acts, heard_act, weight_of, weight, BodyFits, IsDataAt, IsSent, IsSound}
+use Rattle.node_core.specs.Working.{state_at, effects_given, own_acts, heard_act, own_sent, weight_of, weight, BodyFits, IsDataAt, IsSent, IsSound}
 
 -- By one move the node goes from what the step made so far to w', and this is given. Whatever the changes make of d, the move is
 -- one from the state that those before it make
@@ -123,25 +128,7 @@ pub record GoesBy (b : Base) (honest : Type 0) (d : Durable) (x : Outbound) (w w
   pub heard : IsHeard b honest d w (record { from = b.me; born = x.born; request = x.request; body = x.body }) given mid
   pub sent : IsSent b.me given.sends (record mid { entries = mid.entries ++ given.entries }) w'
 
--- ---- the event's own matter
-
--- what the node looks at has no matter, or it was taken, and this is given
-pub record TakesMatter (b : Base) (honest : Type 0) (d : Durable) (w : Work) (a : Act) (g : Given) (w' : Work) : Type 0 where
-  pub moves : honest → MovesTo b d w a g w'
-  pub goes_on : GoesOn b w a w'
-  pub sound : IsSound b w'
-  pub sends : AreOf w.request g.sends
-
-abbrev pub TakesMatters : Base → Type 0 → Durable → Work → List Act → Given → Work → Type 0
-TakesMatters b honest d w [] g w' = (g.sends ≡ []) × (g.entries ≡ []) × (w' ≡ w)
-TakesMatters b honest d w (a ∷ rest) g w' = (rest ≡ []) × TakesMatter b honest d w a g w'
-
--- ---- a replica that is looked at, and keeps what it kept
-
-pub record Peeks {R : Type 0} (stands_for : (ℕ → List ℕ) → Durable → Type 0) (disk : R → Disk) (durable : R → Durable) (log_end count : R → ℕ) (honest : Type 0) (old new : R) : Type 0 where
-  pub looked : honest → Looked stands_for disk durable old new
-  pub log : log_end new ≡ log_end old
-  pub faults : count old ≤ count new
+-- ---- a stop inside the step
 
 -- a chain of moves that took each request, with all of these entries that are entered at a stop
 pub record IsCut (b : Base) (s : NodeState) (matters : List Act) (w : Work) : Type 0 where
@@ -152,3 +139,95 @@ pub record IsCut (b : Base) (s : NodeState) (matters : List Act) (w : Work) : Ty
   pub moves : Chain b.setting b.me s matters deeds reached pending left
   pub taken : (ask : Ask) → Contains left (Asks ask) → ⊥
   pub entries : filter is_entered_at_stop w.entries ≡ filter is_entered_at_stop (flat_map entries_of deeds)
+
+-- a stop inside the step at w is one at w' too
+abbrev pub CutsOn : Base → Work → Work → Type 0
+CutsOn b w w' = (s : NodeState) (matters : List Act) → IsCut b s matters w → IsCut b s matters w'
+
+-- ---- all that comes of it at the node itself
+
+-- The node heard of its own what stood in its queue, up to here
+pub record GoesAlong (b : Base) (honest : Type 0) (d : Durable) (w w' : Work) : Type 0 where
+  pub comes : honest → (s : NodeState) (matters left : List Act) → HasCome b d s matters left w.queue.items w → HasCome b d s matters left w'.queue.items w'
+  pub cut : CutsOn b w w'
+  pub sound : IsSound b w'
+  pub few : length w'.items + weight w'.queue.items ≤ length w.items + weight w.queue.items
+  pub time : w'.time ≡ w.time
+  pub ceiling : w'.ceiling ≡ w.ceiling
+  pub request : w'.request ≡ w.request
+
+-- and nothing is left to hear
+pub record IsSettled (b : Base) (honest : Type 0) (d : Durable) (w w' : Work) : Type 0 where
+  pub along : GoesAlong b honest d w w'
+  pub done : w'.queue.items ≡ []
+
+-- ---- the event's own matter
+
+-- of what is entered at a stop, a client's request alone enters something
+abbrev pub EntersQuietly : Act → List Entry → Type 0
+EntersQuietly (Asks ask) es = Unit {0}
+EntersQuietly (Rises t) es = filter is_entered_at_stop es ≡ []
+EntersQuietly (Hears m) es = filter is_entered_at_stop es ≡ []
+EntersQuietly (Marks peer up) es = filter is_entered_at_stop es ≡ []
+
+-- the matter was taken by a step that had made nothing yet, and this is given
+pub record TakesMatter (b : Base) (honest : Type 0) (d : Durable) (w : Work) (a : Act) (g : Given) (w' : Work) : Type 0 where
+  pub moves : honest → MovesTo b d w a g w'
+  pub goes_on : GoesOn b w a w'
+  pub sound : IsSound b w'
+  pub sends : AreOf w.request g.sends
+  pub few : length w'.items + weight (own_sent b.me g.sends) ≤ 2
+  pub quiet : EntersQuietly a g.entries
+
+abbrev pub TakesMatters : Base → Type 0 → Durable → Work → List Act → Given → Work → Type 0
+TakesMatters b honest d w [] g w' = (g.sends ≡ []) × (g.entries ≡ []) × (w' ≡ w)
+TakesMatters b honest d w (a ∷ rest) g w' = (rest ≡ []) × TakesMatter b honest d w a g w'
+
+-- a mark that fits is put down, and nothing is given
+pub record MarksAs (b : Base) (peer : ℕ) (up : Bool) (w : Work) (g : Given) (w' : Work) : Type 0 where
+  pub sends : g.sends ≡ []
+  pub entries : g.entries ≡ []
+  pub marks : w' ≡ (if mark_fits b.setting b.me peer then record w { marked = Some (marked b.down peer up) } else w)
+
+-- none is a client's request
+abbrev pub AskNothing : List Act → Type 0
+AskNothing matters = (ask : Ask) → Contains matters (Asks ask) → ⊥
+
+-- ---- a step's part in memory, as a whole
+
+-- the request is that of the message, or else the one that would begin now
+abbrev pub IsAbout : ℕ → ℕ → What → ReqId → Type 0
+IsAbout me time (Deliver m) id = id ≡ m.request
+IsAbout me time (Client ask) id = id ≡ request_at me time
+IsAbout me time (Alive peer up) id = id ≡ request_at me time
+IsAbout me time Flush id = id ≡ request_at me time
+IsAbout me time Tick id = id ≡ request_at me time
+
+-- each of the open requests began before this time
+abbrev pub BeganBefore : {A : Type 0} → ℕ → List (ReqId × A) → Type 0
+BeganBefore {A} time xs = AllByRecursion (λ (x : ReqId × A). x.0.time < time) xs
+
+pub record IsNewTo (b : Base) (time : ℕ) : Type 0 where
+  pub writes : BeganBefore time b.writes.entries
+  pub reads : BeganBefore time b.reads.entries
+
+-- a chain that has come to w, with these matters left, is at a stop inside the step at w'
+abbrev pub CutsIn : Base → Durable → List Act → Work → Work → Type 0
+CutsIn b d left w w' = (s : NodeState) (matters : List Act) → HasCome b d s matters left [] w → IsCut b s matters w'
+
+-- a step that had made nothing yet took these matters, with all that comes of them
+pub record IsWorkedOut (b : Base) (honest : Type 0) (d : Durable) (left : List Act) (w w' : Work) : Type 0 where
+  pub comes : honest → (s : NodeState) (matters : List Act) → HasCome b d s matters left [] w → HasCome b d s matters [] [] w'
+  pub cut : honest → CutsIn b d left w w'
+  pub sound : IsSound b w'
+  pub few : length w'.items ≤ 2
+  pub time : w'.time ≡ w.time
+  pub ceiling : w'.ceiling ≡ w.ceiling
+  pub request : w'.request ≡ w.request
+
+-- ---- a replica that is looked at, and keeps what it kept
+
+pub record Peeks {R : Type 0} (stands_for : (ℕ → List ℕ) → Durable → Type 0) (disk : R → Disk) (durable : R → Durable) (log_end count : R → ℕ) (honest : Type 0) (old new : R) : Type 0 where
+  pub looked : honest → Looked stands_for disk durable old new
+  pub log : log_end new ≡ log_end old
+  pub faults : count old ≤ count new

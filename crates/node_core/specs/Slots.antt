@@ -11,6 +11,13 @@ IsFound {A} (New a) found slot = (found ≡ Some (record { now = a; is_new = tru
 IsFound {A} (Old a) found slot = (found ≡ Some (record { now = a; is_new = false })) × (slot ≡ Untouched)
 IsFound {A} Gone found slot = (found ≡ None) × (slot ≡ Gone)
 
+-- the request began in the step
+abbrev pub IsNew : {A : Type 0} → Slot A → Type 0
+IsNew {A} Untouched = ⊥
+IsNew {A} (New a) = Unit {0}
+IsNew {A} (Old a) = ⊥
+IsNew {A} Gone = ⊥
+
 abbrev pub slot_after : {A : Type 0} → Bool → Bool → A → Slot A
 slot_after {A} true true a = Untouched
 slot_after {A} true false a = New a

@@ -22,6 +22,7 @@ use Rattle.node_core.specs.declared.slot.Slot.TheVariants.{Untouched, New, Old, 
 use Rattle.node_core.specs.declared.work.Work.{Work}
 use Rattle.node_core.specs.declared.work.Given.{Given}
 use Rattle.node_core.specs.declared.work.Heard.{Heard}
+use Rattle.node_core.specs.Slots.{IsNew}
 
 -- ---- the request that the step is about
 
@@ -119,9 +120,15 @@ pub record IsOwn (me : ℕ) (id : ReqId) (x : Outbound) : Type 0 where
   pub request : x.request ≡ id
   pub fits : BodyFits x.body
 
+-- what began in the step began by its time
+pub record IsEarly (w : Work) : Type 0 where
+  pub write : IsNew w.write → w.request.time ≤ w.time
+  pub read : IsNew w.read → w.request.time ≤ w.time
+
 -- what the step made is of one request, and can be kept
 pub record IsSound (b : Base) (w : Work) : Type 0 where
   pub write : IsSlotOf w.request b.writes.entries w.write
   pub read : IsSlotOf w.request b.reads.entries w.read
   pub queue : AllByRecursion (IsOwn b.me w.request) w.queue.items
   pub items : AllByRecursion (IsDataAt w.time) w.items
+  pub early : IsEarly w

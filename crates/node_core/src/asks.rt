@@ -6,7 +6,7 @@ ghost use Rattle.peer_messages.specs.declared.event.Plan.TheVariants.{Write, Rea
 ghost use Rattle.peer_messages.specs.Settings.{alive_at};
 ghost use Rattle.node_steps.specs.State.{NodeState};
 ghost use Rattle.node_steps.specs.Requests.{refusal_at as refusal_at_of, unavailable};
-ghost use Rattle.node_core.specs.Asking.{AsksAs, AsksWrite, AsksRead, TellsEntry};
+ghost use Rattle.node_core.specs.Asking.{AsksAs, AsksWrite, AsksRead, Begins, TellsEntry};
 
 use crate::base::Base;
 use crate::fits::{query_fits, write_fits};
@@ -101,7 +101,8 @@ impl Work {
         draft: &DraftMutation,
     ) -> Result<Given, AllocError>
         requires time { self.old.request.time < 2 ^ 63 }
-        ensures { IfOk result (AsksAs base.now (Write draft.now) level self.old self.new) }
+        ensures asks { IfOk result (AsksAs base.now (Write draft.now) level self.old self.new) }
+        ensures begins { IfOk result (Begins base.now self.old self.new) }
     {
         let mutation = draft.mutation(alloc, self.request)?;
         let fits = write_fits(&base.setting, &mutation);
@@ -140,11 +141,19 @@ impl Work {
         query: &Query,
         columns: Columns,
     ) -> Result<Given, AllocError>
-        ensures { IfOk result (AsksAs base.now (Read query.now columns) level self.old self.new) }
+        ensures asks { IfOk result (AsksAs base.now (Read query.now columns) level self.old self.new) }
+        ensures begins { IfOk result (Begins base.now self.old self.new) }
     {
         let fits = query_fits(&base.setting, query);
         let down = base.down.as_slice();
-        match refusal_at(&base.setting, down, fits, &query.partition, level, Invalid::Level) {
+        match refusal_at(
+            &base.setting,
+            down,
+            fits,
+            &query.partition,
+            level,
+            Invalid::Level,
+        ) {
             Some(refusal) => Given::tells(alloc, Entry::Refused(self.request, refusal)),
             None => self.begin_read(base, alloc, level, query, columns),
         }
@@ -153,7 +162,8 @@ impl Work {
     /// Begins a client's request, or refuses it.
     pub(crate) fn ask(&mut self, base: &Base, alloc: Global, ask: Ask) -> Result<Given, AllocError>
         requires time { self.old.request.time < 2 ^ 63 }
-        ensures { IfOk result (AsksAs base.now ask.plan ask.level self.old self.new) }
+        ensures asks { IfOk result (AsksAs base.now ask.plan ask.level self.old self.new) }
+        ensures begins { IfOk result (Begins base.now self.old self.new) }
     {
         let Ask { plan, level } = ask;
         match plan {

@@ -1,11 +1,14 @@
 //! What fits the setting of a cluster and can be written in a log. What does not is not taken.
 
-ghost use Rattle.std.specs.Prelude.{◌≡◌};
+ghost use Rattle.std.specs.Prelude.{◌≡◌, IsTrue};
 ghost use Rattle.std.specs.List.{list_all};
+ghost use Rattle.stored_changes.specs.Spelling.{MutationFits};
+ghost use Rattle.node_core.specs.Working.{BodyFits};
 ghost use Rattle.node_steps.specs.Fitting.{is_short as is_short_of, place_fits as place_fits_of, value_fits as value_fits_of, change_fits as change_fits_of, are_in_order as are_in_order_of, changes_fit as changes_fit_of, mutation_fits as mutation_fits_of, is_node as is_node_of, is_table as is_table_of, write_fits as write_fits_of, query_fits as query_fits_of, body_fits as body_fits_of, message_fits as message_fits_of, mark_fits as mark_fits_of};
 
 use changes::{Held, Mutation, Partition, Place, Query, are_in_order};
 use cs_base::{Bytes, NodeId};
+use node_steps::what_fits_is_tested;
 use peer_messages::{Body, Message, Setting};
 
 /// Lengths and counts are below this.
@@ -65,8 +68,10 @@ pub(crate) fn changes_fit(changes: &[Held]) -> bool
 }
 
 pub(crate) fn mutation_fits(mutation: &Mutation) -> bool
-    ensures { result ≡ mutation_fits_of mutation.now }
+    ensures tested { result ≡ mutation_fits_of mutation.now }
+    ensures fits { IsTrue result → MutationFits mutation.now }
 {
+    what_fits_is_tested();
     is_short(&mutation.partition.key) && changes_fit(mutation.changes.as_slice())
 }
 
@@ -83,7 +88,8 @@ fn is_node(setting: &Setting, node: NodeId) -> bool
 }
 
 pub(crate) fn write_fits(setting: &Setting, mutation: &Mutation) -> bool
-    ensures { result ≡ write_fits_of setting.now mutation.now }
+    ensures tested { result ≡ write_fits_of setting.now mutation.now }
+    ensures fits { IsTrue result → MutationFits mutation.now }
 {
     is_table(setting, &mutation.partition) && mutation_fits(mutation)
 }
@@ -95,7 +101,8 @@ pub(crate) fn query_fits(setting: &Setting, query: &Query) -> bool
 }
 
 fn body_fits(setting: &Setting, body: &Body) -> bool
-    ensures { result ≡ body_fits_of setting.now body.now }
+    ensures tested { result ≡ body_fits_of setting.now body.now }
+    ensures fits { IsTrue result → BodyFits body.now }
 {
     match body {
         Body::Write(mutation) => write_fits(setting, mutation),
@@ -107,7 +114,8 @@ fn body_fits(setting: &Setting, body: &Body) -> bool
 
 /// Whether a message goes to this node from another one, its nodes are of the ring, and it can be taken.
 pub(crate) fn message_fits(setting: &Setting, me: NodeId, message: &Message) -> bool
-    ensures { result ≡ message_fits_of setting.now me message.now }
+    ensures tested { result ≡ message_fits_of setting.now me message.now }
+    ensures fits { IsTrue result → BodyFits message.now.body }
 {
     message.upto == me
         && message.from != me

@@ -1,6 +1,6 @@
 //! How a node hears a body in a step.
 
-ghost use Rattle.std.specs.Prelude.{◌≡◌, ◌<◌, ◌∷◌, ◌++◌, [], Contains, IfOk, OnOk, IsErrOf};
+ghost use Rattle.std.specs.Prelude.{◌≡◌, ◌∷◌, ◌++◌, [], Contains, IfOk, OnOk, IsErrOf};
 ghost use Rattle.std.specs.List.{AllByRecursion};
 ghost use Rattle.std.specs.BTreeMap.{IsOrdered};
 ghost use Rattle.cs_base.specs.Faults.{HasRisen};
@@ -14,7 +14,7 @@ ghost use Rattle.node_steps.specs.Replicas.{IsAnswerTo};
 ghost use Rattle.row_change.specs.declared.entry.LogItem.TheVariants.{Data};
 ghost use Rattle.peer_messages.specs.declared.message.Body.TheVariants.{WriteAck};
 ghost use Rattle.node_steps.specs.Effects.{outbound};
-ghost use Rattle.node_core.specs.Working.{effects_given, IsSlotOf, IsDataAt, IsSound, BodyFits, IsOwn, weight};
+ghost use Rattle.node_core.specs.Working.{effects_given, IsSlotOf, IsDataAt, IsSound, BodyFits, IsOwn};
 ghost use Rattle.node_core.specs.Hearing.{AckMoves, ReplyMoves};
 ghost use Rattle.node_core.specs.Moving.{replies, AnswersBehind, IsBehind, IsBehindItem, AreBehind, IsReadFor, HasPart, TakesBody, IsHeard, GoesBy, Peeks};
 ghost use Rattle.replica.specs.declared.error.CallError.TheVariants as call_error;
@@ -26,7 +26,7 @@ use crate::work::{Given, Heard, Work};
 use cell_merge::Content;
 use changes::{Held, Helds, Mutation, Partition, Query};
 use cs_base::{Items, NodeId, ReqId};
-use peer_messages::{Body, Outbound};
+use peer_messages::{Body, Message, Outbound};
 use replica::{CallError, Replica};
 use row_change::LogItem;
 use std::alloc::{AllocError, Global};
@@ -48,6 +48,18 @@ impl Heard {
             born: sent.born,
             request: sent.request,
             body: sent.body,
+        }
+    }
+
+    /// A body that another node sent.
+    pub(crate) fn of(message: Message) -> Heard
+        ensures { result ≡ record { from = message.from; born = message.born; request = message.request; body = message.body } }
+    {
+        Heard {
+            from: message.from,
+            born: message.born,
+            request: message.request,
+            body: message.body,
         }
     }
 }
@@ -227,18 +239,20 @@ impl Work {
         reply(alloc, asker, Body::WriteAck)
     }
 
-    fn hear_ack(
-        &mut self,
-        base: &Base,
-        alloc: Global,
-        asker: Asker,
-    ) -> Result<Given, AllocError>
+    fn hear_ack(&mut self, base: &Base, alloc: Global, asker: Asker) -> Result<Given, AllocError>
         requires ordered { IsOrdered request_cmp base.now.writes }
         requires slot { IsSlotOf asker.request base.now.writes.entries self.old.write }
         ensures { IfOk result (λ given. AckMoves base.now.setting asker.request asker.from base.now.writes.entries self.old.write given self.new.write × (self.new ≡ record self.old { write = self.new.write })) }
     {
         let slot = &mut self.write;
-        hear_ack(&base.writes, slot, alloc, &base.setting, asker.request, asker.from)
+        hear_ack(
+            &base.writes,
+            slot,
+            alloc,
+            &base.setting,
+            asker.request,
+            asker.from,
+        )
     }
 
     fn hear_reply(
@@ -253,7 +267,15 @@ impl Work {
         ensures { IfOk result (λ given. ReplyMoves base.now.setting asker.request asker.from content base.now.reads.entries self.old.read given self.new.read × (self.new ≡ record self.old { read = self.new.read })) }
     {
         let slot = &mut self.read;
-        hear_reply(&base.reads, slot, alloc, &base.setting, asker.request, asker.from, content)
+        hear_reply(
+            &base.reads,
+            slot,
+            alloc,
+            &base.setting,
+            asker.request,
+            asker.from,
+            content,
+        )
     }
 
     /// Takes a body, by what came; `part` is what is held of what it asks.
@@ -314,7 +336,7 @@ pub(crate) fn hear<R: Replica>(
 }
 
 /// Hears a body that the node sent to itself, which was taken from the queue.
-fn hear_own<R: Replica>(
+pub(crate) fn hear_own<R: Replica>(
     base: &Base,
     replica: &mut R,
     alloc: Global,
@@ -327,8 +349,6 @@ fn hear_own<R: Replica>(
     requires sound { IsSound base.now work.old }
     requires own { IsOwn base.now.me work.old.request sent }
     ensures ok { OnOk result (GoesBy base.now R.Disk.is_honest (R.durable replica.old) sent work.old work.new) }
-    ensures sound { OnOk result (IsSound base.now work.new) }
-    ensures lighter { OnOk result (weight work.new.queue.items < weight (sent ∷ work.old.queue.items)) }
     ensures same { IsErrOf result call_error.Failed → work.new ≡ work.old }
     ensures peeks { Peeks R.stands_for (λ r. R.Disk.disk (R.disk r)) R.durable R.log_end (λ r. R.Disk.faults (R.disk r)) R.Disk.is_honest replica.old replica.new }
     ensures whole { (IsErrOf result call_error.Failed → ⊥) → R.is_whole replica.new }

@@ -8,7 +8,14 @@ mod fits;
 mod hearing;
 mod hears;
 mod keep;
+mod matter;
+mod memory;
+mod node;
+mod opening;
+mod outcome;
 mod slot;
 mod times;
 mod work;
 
+pub use node::{Node, NodeCore};
+pub use outcome::{Lost, StepError};

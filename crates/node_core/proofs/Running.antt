@@ -1,0 +1,33 @@
+-- A node with what it has in memory, by whether it runs.
+use Rattle.std.proofs.Common.{◌≡◌, ◌≤◌, ℕ, Bool, true, false, Result, Ok, Err, IsErrOf, IfOk, OnOk, OnErr, refl, sym, ap, subst, ◌∙◌}
+use Rattle.std.specs.Prelude.{not}
+use Rattle.peer_messages.specs.declared.event.Event.{Event}
+use Rattle.peer_messages.specs.declared.outcome.Outputs.{Outputs}
+use Rattle.durable_state.specs.State.{Durable}
+use Rattle.node_core.specs.declared.memory.Memory.{Memory}
+use Rattle.node_core.specs.declared.outcome.Lost.{Lost}
+use Rattle.node_core.specs.declared.outcome.StepError.{StepError}
+use Rattle.node_core.specs.declared.outcome.StepError.TheVariants.{Failed}
+use Rattle.node_core.specs.Memory.{core_of, has_stopped}
+use Rattle.node_core.specs.Nodes.{Core, Steps}
+use Rattle.node_core.proofs.Answered.{NotFailed, Told, goes_on, stopped_by}
+
+abbrev pub core_if : Memory → Bool → Core
+core_if m runs = record (core_of m) { runs = runs }
+
+-- a node that runs
+pub running : (m : Memory) (runs : Bool) (n : Core) → runs ≡ true → core_if m runs ≡ n → core_of m ≡ n
+running m runs n run is = ap (core_if m) (sym run) ∙ is
+
+pub steps_told : (r : Told) (m m' : Memory) (n : Core) (d d' : Durable) (e : Event) (honest : Type 0) → core_of m ≡ n → IfOk r (λ o. honest → Steps (core_of m) d e o (core_of m') d') → IfOk r (λ o. honest → Steps n d e o (core_if m' (not (has_stopped r))) d')
+steps_told (Ok o) m m' n d d' e honest is steps = λ h. subst (λ (x : Core). Steps x d e o (core_of m') d') is (steps h)
+steps_told (Err e') m m' n d d' e honest is steps = tt
+
+pub same_told : (r : Told) (m m' : Memory) (n : Core) (S : Type 0) → core_of m ≡ n → OnErr r (core_of m' ≡ core_of m) → OnErr r (NotFailed r → S) → OnErr r (not (has_stopped r) ≡ true → (core_if m' (not (has_stopped r)) ≡ n) × S)
+same_told (Ok o) m m' n S is back same = tt
+same_told (Err e) m m' n S is back same = let r : Told = Err e in λ run. (ap (core_if m') run ∙ back ∙ is, same (goes_on r run))
+
+pub failed_told : (r : Told) (l : Lost) (m m' : Memory) (n : Core) → IsErrOf r (Failed l) → core_of m ≡ n → OnErr r (core_of m' ≡ core_of m) → core_if m' (not (has_stopped r)) ≡ record n { runs = false }
+failed_told r l m m' n told is back =
+    let at = subst (λ (x : Told). OnErr x (core_of m' ≡ core_of m)) told back in
+    ap (core_if m') (stopped_by r l told) ∙ ap (λ (x : Core). let y : Core = record x { runs = false } in y) (at ∙ is)
