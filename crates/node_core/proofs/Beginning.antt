@@ -1,5 +1,5 @@
 -- What a client's request leaves as it was, and what it sends: to the node itself one body at the most.
-use Rattle.std.proofs.Common.{◌≡◌, ◌<◌, ◌≤◌, ◌+◌, inl, inr, ℕ, Bool, true, false, Option, Some, None, List, [], ◌∷◌, refl, sym, ap, subst, ◌∙◌, arith, filter, map}
+use Rattle.std.proofs.Common.{◌≡◌, ◌<◌, ◌≤◌, ◌+◌, inl, inr, ℕ, zero, suc, Bool, true, false, Option, Some, None, List, [], ◌∷◌, refl, sym, ap, subst, ◌∙◌, arith, filter, map}
 use Rattle.std.specs.Prelude.{◌==◌, not, cond, length, slice_get}
 use Rattle.std.specs.List.{AllByRecursion, range_with_len}
 use Rattle.std.proofs.lemmas.Bool.{eqb-true}
@@ -100,7 +100,7 @@ one_own : (me : ℕ) (id : ReqId) (body : Body) (ks : List ℕ) → Rising ks �
 one_own me id body [] rises = omega arith
 one_own me id body (k ∷ ks) rises = one_cond (k == me) me k id body ks refl rises.0 (one_own me id body ks rises.1)
 
-body_light : (body : Body) → weight_of body ≤ 2
+pub body_light : (body : Body) → weight_of body ≤ 2
 body_light (Write m) = omega arith
 body_light WriteAck = omega arith
 body_light (Read q) = omega arith

@@ -1,25 +1,29 @@
 -- What a step leaves, from what it made and how that was kept.
 use Rattle.std.proofs.Common.{◌≡◌, ◌<◌, ◌≤◌, ◌+◌, ◌^◌, ℕ, Bool, Option, List, ◌++◌, Result, Ok, Err, IsErrOf, IfOk, OnOk, OnErr, refl, sym, ap, subst, ◌∙◌, arith}
 use Rattle.row_change.specs.declared.entry.LogItem.{LogItem}
+use Rattle.peer_messages.specs.declared.chronicle.Entry.{Entry}
 use Rattle.peer_messages.specs.declared.event.Event.{Event}
 use Rattle.peer_messages.specs.declared.event.What.{What}
 use Rattle.peer_messages.specs.declared.outcome.Outputs.{Outputs}
 use Rattle.durable_state.specs.State.{Durable}
 use Rattle.durable_state.specs.Keeping.{Commits}
-use Rattle.node_steps.specs.Steps.{risen_time, end_of_time}
+use Rattle.node_steps.specs.Steps.{risen_time, end_of_time, started_by}
 use Rattle.replica.specs.declared.kept.Kept.{Kept}
 use Rattle.replica.specs.Kept.{IsKeptOf}
 use Rattle.cs_base.specs.declared.ids.ReqId.{ReqId}
 use Rattle.node_core.specs.declared.memory.Begun.{Begun}
 use Rattle.node_core.specs.declared.memory.Made.{Made}
 use Rattle.node_core.specs.declared.memory.Memory.{Memory}
+use Rattle.node_core.specs.declared.outcome.Lost.{Lost}
+use Rattle.node_core.specs.declared.outcome.StepError.{StepError}
+use Rattle.node_core.specs.declared.outcome.StepError.TheVariants.{Failed}
 use Rattle.node_core.specs.declared.work.Work.{Work}
-use Rattle.node_core.specs.Memory.{AreOutputsOf, HoldsCore, IsBegun, core_behind, core_of, entry_made}
+use Rattle.node_core.specs.Memory.{AreOutputsOf, HoldsCore, IsBegun, IsLost, core_behind, core_of, entry_made}
 use Rattle.node_core.specs.Moving.{IsAbout, IsNewTo}
 use Rattle.node_core.specs.Nodes.{Core, Steps}
 use Rattle.node_core.specs.Opening.{AreOrdered}
 use Rattle.node_core.specs.Working.{IsSound}
-use Rattle.node_core.proofs.Answered.{NotFailed, Told, ok_both, ok_or}
+use Rattle.node_core.proofs.Answered.{NotFailed, Told, ok_both, ok_or, one_lost}
 use Rattle.node_core.proofs.Entry.{kept_after}
 use Rattle.node_core.proofs.Requests.{held_back, held_behind, held_new}
 use Rattle.node_core.proofs.Stepping.{IsReady, rises, stepped}
@@ -37,6 +41,12 @@ begun_new m t e x b at held = held_new m.base m.time x.made.work.time (begun_lat
 
 pub begun_within : (m : Memory) (t : ℕ) (e : Event) (x : Begun) → IsBegun m t e x → t ≤ end_of_time → x.made.work.time < 2 ^ 63
 begun_within m t e x b within = let time = b.time in omega arith
+
+pub begun_started : (m : Memory) (t : ℕ) (e : Event) (x : Begun) → IsBegun m t e x → t ≡ risen_time m.time e → x.made.started ≡ started_by m.base.me (risen_time m.time e) e.what
+begun_started m t e x b at = b.started ∙ ap (λ (u : ℕ). started_by m.base.me u e.what) at
+
+pub lost_as : (started : Option ReqId) (entries : List Entry) (k l : Lost) → (let r : Told = Err (Failed k) in IsErrOf r (Failed l)) → IsLost started entries k → IsLost started entries l
+lost_as started entries k l told lost = subst (λ (x : Lost). IsLost started entries x) (one_lost k l told) lost
 
 -- ---- it is kept
 

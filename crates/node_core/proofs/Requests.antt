@@ -2,7 +2,7 @@
 use Rattle.std.proofs.Common.{◌≡◌, ◌<◌, ◌≤◌, ℕ, Bool, true, false, Option, Some, None, List, [], ◌∷◌, refl, sym, ap, subst, ◌∙◌, arith}
 use Rattle.std.specs.Prelude.{cond, if◌then◌else◌}
 use Rattle.std.specs.List.{AllByRecursion}
-use Rattle.std.specs.Map.{set_value, remove_entry}
+use Rattle.std.specs.Map.{lookup, set_value, remove_entry}
 use Rattle.std.specs.BTreeMap.{insert_entry, is_at}
 use Rattle.std.specs.Ordering.{match_ordering}
 use Rattle.std.specs.declared.cmp.Ordering.{Ordering}
@@ -24,7 +24,7 @@ use Rattle.node_core.specs.Nodes.{Core}
 use Rattle.node_core.specs.Opening.{AreOrdered, BeganBy, IsOpenedAs, IsRestOf, Known, known_of, known_with, known_without, with_begun, with_rest, without_begun}
 use Rattle.node_core.specs.Slots.{IsNew}
 use Rattle.node_core.specs.Working.{IsEarly, IsSlotOf, down_with, with_slot}
-use Rattle.node_core.proofs.Slots.{remove_inserted, request_itself}
+use Rattle.node_core.proofs.Slots.{remove_inserted, request_itself, some_not_none}
 
 -- ---- what began, and the rest
 
@@ -34,7 +34,7 @@ put_slot {A} id (New a) t xs h = ap (λ (s : Slot A). with_rest id s (insert_ent
 put_slot {A} id (Old a) t xs h = ap (λ (s : Slot A). with_rest id s xs) h.1
 put_slot {A} id Gone t xs h = ap (λ (s : Slot A). with_rest id s xs) h.1
 
-close_slot : {A : Type 0} (id : ReqId) (slot : Slot A) (t : Touched A) (xs : List (ReqId × A)) → IsSlotOf id xs slot → IsRestOf slot t → without_begun id t.began (with_begun id slot xs) ≡ xs
+pub close_slot : {A : Type 0} (id : ReqId) (slot : Slot A) (t : Touched A) (xs : List (ReqId × A)) → IsSlotOf id xs slot → IsRestOf slot t → without_begun id t.began (with_begun id slot xs) ≡ xs
 close_slot {A} id Untouched t xs is h = ap (λ (b : Bool). without_begun id b xs) h.0
 close_slot {A} id (New a) t xs is h = ap (λ (b : Bool). without_begun id b (insert_entry request_cmp xs id a)) h.0 ∙ remove_inserted request_cmp xs id a (request_itself id) is
 close_slot {A} id (Old a) t xs is h = ap (λ (b : Bool). without_begun id b xs) h.0
@@ -48,6 +48,9 @@ closing id o k = record k { writes = without_begun id o.write.began k.writes; re
 
 abbrev with_both : Known → List (ReqId × OpenWrite) → List (ReqId × OpenRead) → Known
 with_both k writes reads = record k { writes = writes; reads = reads }
+
+pub known_undone : (b : Base) (ws : List (ReqId × OpenWrite)) (rs : List (ReqId × OpenRead)) → ws ≡ b.writes.entries → rs ≡ b.reads.entries → with_both (known_of b) ws rs ≡ known_of b
+known_undone b ws rs write read = ap (λ (xs : List (ReqId × OpenWrite)). with_both (known_of b) xs rs) write ∙ ap (λ (xs : List (ReqId × OpenRead)). with_both (known_of b) b.writes.entries xs) read
 
 pub put_known : (id : ReqId) (write : Slot OpenWrite) (read : Slot OpenRead) (marked : Option (List ℕ)) (b b1 b2 : Base) (o : Opened) → IsOpenedAs id write read b o b1 → known_of b2 ≡ known_with id o marked b1
     → known_of b2 ≡ record (known_of b) { down = down_with marked b.down; writes = with_slot id write b.writes.entries; reads = with_slot id read b.reads.entries }
@@ -138,3 +141,13 @@ held_behind m m' w held later early ordered is =
 
 pub held_new : (b : Base) (t u : ℕ) → t < u → HoldsCore b t → IsNewTo b u
 held_new b t u lt held = record { writes = began_before t u b.writes.entries lt held.writes; reads = began_before t u b.reads.entries lt held.reads }
+
+-- ---- a key that is not there
+
+set_cond_absent : {K A : Type 0} (b : Bool) (e : K × A) (es ys : List (K × A)) (w : A) → (rest : Option A) → cond b (Some e.1) rest ≡ None → (rest ≡ None → ys ≡ es) → cond b ((e.0, w) ∷ es) (e ∷ ys) ≡ e ∷ es
+set_cond_absent {K} {A} true e es ys w rest none same = absurd (some_not_none e.1 none)
+set_cond_absent {K} {A} false e es ys w rest none same = ap (λ (zs : List (K × A)). e ∷ zs) (same none)
+
+pub set_absent : {K A : Type 0} (test : K → Bool) (es : List (K × A)) (w : A) → lookup test es ≡ None → set_value test es w ≡ es
+set_absent {K} {A} test [] w none = refl
+set_absent {K} {A} test (e ∷ es) w none = set_cond_absent (test e.0) e es (set_value test es w) w (lookup test es) none (set_absent test es w)

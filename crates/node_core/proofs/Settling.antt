@@ -1,9 +1,10 @@
 -- All that a node hears of its own, one after another.
-use Rattle.std.proofs.Common.{◌≡◌, ◌<◌, ◌≤◌, ◌+◌, ℕ, Bool, true, false, List, [], ◌∷◌, ◌++◌, length, refl, sym, ap, subst, ◌∙◌, arith, filter, append-nil}
+use Rattle.std.proofs.Common.{◌≡◌, ◌<◌, ◌≤◌, ◌+◌, ℕ, Bool, true, false, Option, Some, None, List, [], ◌∷◌, ◌++◌, length, drop, refl, sym, ap, subst, ◌∙◌, arith, filter, append-nil}
 use Rattle.std.specs.Prelude.{◌==◌, if◌then◌else◌, cond}
+use Rattle.std.specs.Option.{option_to_list}
 use Rattle.std.specs.List.{AllByRecursion}
 use Rattle.std.proofs.lemmas.Bool.{eqb-true}
-use Rattle.std.proofs.lemmas.List.{length-append}
+use Rattle.std.proofs.lemmas.List.{length-append, length-drop}
 use Rattle.cs_base.specs.declared.ids.ReqId.{ReqId}
 use Rattle.row_change.specs.declared.entry.LogItem.{LogItem}
 use Rattle.peer_messages.specs.declared.message.Body.{Body}
@@ -19,13 +20,13 @@ use Rattle.node_core.specs.declared.base.Base.{Base}
 use Rattle.node_core.specs.declared.work.Given.{Given}
 use Rattle.node_core.specs.declared.work.Work.{Work}
 use Rattle.node_core.specs.Working.{IsOwn, IsSent, IsSound, BodyFits, own_act, own_sent, weight, weight_of}
-use Rattle.node_core.specs.Moving.{AreOf, GoesBy, GoesAlong, HasCome, IsCut, IsHeard, MovesTo}
+use Rattle.node_core.specs.Moving.{AreOf, GoesBy, GoesAlong, HasCome, IsCut, IsHeard, IsSettled, MovesTo}
 use Rattle.node_core.proofs.Coming.{own_more, cut_more}
 
 -- ---- weights
 
 pub weight_append : (xs ys : List Outbound) → weight (xs ++ ys) ≡ weight xs + weight ys
-weight_append [] ys = refl
+weight_append [] ys = omega arith
 weight_append (x ∷ xs) ys = let rest = weight_append xs ys in omega arith
 
 own_cond : (b : Bool) (x : Outbound) (xs ys : List Outbound) → weight ys ≤ weight xs → weight (cond b (x ∷ ys) ys) ≤ weight (x ∷ xs)
@@ -150,12 +151,28 @@ popped_own b w v x s (queue, rest) =
     let all = subst (λ (xs : List Outbound). AllByRecursion (IsOwn b.me w.request) xs) queue s.queue in
     subst (λ (id : ReqId). IsOwn b.me id x) (sym (ap (λ (y : Work). y.request) rest)) all.0
 
+-- a chain that came to a step came to it with another queue
+pub requeued_come : (b : Base) (d : Durable) (s : NodeState) (matters left : List Act) (pending : List Outbound) (w v : Work) → v ≡ record w { queue = v.queue } → HasCome b d s matters left pending w → HasCome b d s matters left pending v
+requeued_come b d s matters left pending w v rest come =
+    subst (λ (y : Work). HasCome b d s matters left pending y) (sym rest) (λ d' commits. let made = come d' commits in record { deeds = made.deeds; moves = made.moves; messages = made.messages; entries = made.entries; items = made.items })
+
+pub requeued_cut : (b : Base) (s : NodeState) (matters : List Act) (w v : Work) → v ≡ record w { queue = v.queue } → IsCut b s matters w → IsCut b s matters v
+requeued_cut b s matters w v rest cut =
+    subst (λ (y : Work). IsCut b s matters y) (sym rest) (record {
+      deeds = cut.deeds;
+      reached = cut.reached;
+      pending = cut.pending;
+      left = cut.left;
+      moves = cut.moves;
+      taken = cut.taken;
+      entries = cut.entries;
+    })
+
 popped_come : (b : Base) (d : Durable) (s : NodeState) (matters left : List Act) (w v : Work) (x : Outbound) → Pops w x v → HasCome b d s matters left w.queue.items w → HasCome b d s matters left (x ∷ v.queue.items) v
-popped_come b d s matters left w v x (queue, rest) come =
-    subst (λ (y : Work). HasCome b d s matters left (x ∷ v.queue.items) y) (sym rest) (subst (λ (xs : List Outbound). HasCome b d s matters left xs w) queue come)
+popped_come b d s matters left w v x (queue, rest) come = requeued_come b d s matters left (x ∷ v.queue.items) w v rest (subst (λ (xs : List Outbound). HasCome b d s matters left xs w) queue come)
 
 popped_cut : (b : Base) (s : NodeState) (matters : List Act) (w v : Work) (x : Outbound) → Pops w x v → IsCut b s matters w → IsCut b s matters v
-popped_cut b s matters w v x (queue, rest) cut = subst (λ (y : Work). IsCut b s matters y) (sym rest) cut
+popped_cut b s matters w v x (queue, rest) cut = requeued_cut b s matters w v rest cut
 
 by_comes : (b : Base) (d : Durable) (s : NodeState) (matters left : List Act) (honest : Type 0) (x : Outbound) (v w' : Work) → honest → GoesBy b honest d x v w' → HasCome b d s matters left (x ∷ v.queue.items) v → HasCome b d s matters left w'.queue.items w'
 by_comes b d s matters left honest x v w' is by come =
@@ -185,3 +202,37 @@ along_more b honest d w0 w v w' x along pops by =
 -- a body of its own that was taken from the queue, before it is heard
 pub popped_cuts : (b : Base) (honest : Type 0) (d : Durable) (w0 w v : Work) (x : Outbound) → GoesAlong b honest d w0 w → Pops w x v → (s : NodeState) (matters : List Act) → IsCut b s matters w0 → IsCut b s matters v
 popped_cuts b honest d w0 w v x along pops s matters cut = popped_cut b s matters w v x pops (along.cut s matters cut)
+
+-- what was taken from the queue, as the queue tells it
+pub pops_by : (w v : Work) (x : Outbound) (r : Option Outbound) → v ≡ record w { queue = v.queue } → w.queue.items ≡ option_to_list r ++ v.queue.items → r ≡ Some x → Pops w x v
+pops_by w v x r rest items is = (items ∙ ap (λ (o : Option Outbound). option_to_list o ++ v.queue.items) is, rest)
+
+none_left : (xs : List Outbound) → xs ≡ drop 1 xs → xs ≡ []
+none_left [] h = refl
+none_left (x ∷ xs) h = absurd (omega (arith, length-drop 1 (x ∷ xs), ap length h))
+
+-- nothing was there to be taken
+pub along_end : (b : Base) (honest : Type 0) (d : Durable) (w0 w v : Work) → GoesAlong b honest d w0 w → v ≡ record w { queue = v.queue } → w.queue.items ≡ v.queue.items → v.queue.items ≡ drop 1 w.queue.items → IsSettled b honest d w0 v
+along_end b honest d w0 w v along rest same none =
+    let sound : IsSound b v = subst (λ (y : Work). IsSound b y) (sym rest) (record {
+      write = along.sound.write;
+      read = along.sound.read;
+      queue = subst (λ (xs : List Outbound). AllByRecursion (IsOwn b.me w.request) xs) same along.sound.queue;
+      items = along.sound.items;
+      early = record { write = along.sound.early.write; read = along.sound.early.read };
+    }) in
+    let before = along.few in
+    let items = ap (λ (y : Work). length y.items) rest in
+    let queue = ap weight same in
+    record {
+      along = record {
+        comes = λ is s matters left come. requeued_come b d s matters left v.queue.items w v rest (subst (λ (xs : List Outbound). HasCome b d s matters left xs w) same (along.comes is s matters left come));
+        cut = λ s matters cut. requeued_cut b s matters w v rest (along.cut s matters cut);
+        sound = sound;
+        few = omega arith;
+        time = ap (λ (y : Work). y.time) rest ∙ along.time;
+        ceiling = ap (λ (y : Work). y.ceiling) rest ∙ along.ceiling;
+        request = ap (λ (y : Work). y.request) rest ∙ along.request;
+      };
+      done = none_left v.queue.items (none ∙ ap (λ (xs : List Outbound). drop 1 xs) same);
+    }

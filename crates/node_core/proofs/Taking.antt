@@ -44,7 +44,7 @@ use Rattle.node_core.specs.Working.{IsDataAt, IsOwn, IsSent, IsSlotOf, IsSound, 
 use Rattle.node_core.specs.Moving.{AreOf, AskNothing, BeganBefore, CutsIn, CutsOn, EntersQuietly, GoesAlong, GoesOn, HasCome, IsAbout, IsCut, IsHeard, IsNewTo, IsSettled, IsWorkedOut, MovesTo, TakesMatter, TakesMatters, MarksAs}
 use Rattle.node_core.proofs.Beginning.{body_light}
 use Rattle.node_core.proofs.Coming.{cut_more, matter_more}
-use Rattle.node_core.proofs.Settling.{kept_few, sent_sound, weight_own}
+use Rattle.node_core.proofs.Settling.{kept_few, requeued_come, sent_sound, weight_own}
 
 -- ---- a request that begins now is not open
 
@@ -188,9 +188,11 @@ mark_taken b honest d w w' peer up g fresh sends entries is =
       moves = λ is_honest d' commits. (
         d',
         subst (λ (xs : List LogItem). Commits xs d d') items commits,
-        effects,
-        ap (λ (y : Work). state_at b d' y) is
-            ∙ ap (λ (m : Option (List ℕ)). let s : NodeState = record (state_at b d' w) { down = marked (down_with m b.down) peer up } in s) (sym fresh.marked),
+        (
+          effects,
+          ap (λ (y : Work). state_at b d' y) is
+              ∙ ap (λ (m : Option (List ℕ)). let s : NodeState = record (state_at b d' w) { down = marked (down_with m b.down) peer up } in s) (sym fresh.marked),
+        ),
       );
       goes_on = record {
         time = ap (λ (y : Work). y.time) is;
@@ -276,7 +278,7 @@ taken b honest d [] w mid w1 g fresh (sends, entries, same) sent =
     let queue = none.1 ∙ fresh.queue in
     let sound = fresh_sound b w fresh in
     let come_it : (s : NodeState) (matters : List Act) → HasCome b d s matters [] [] w → HasCome b d s matters [] w1.queue.items w1 =
-    λ s matters come. subst (λ (q : List Outbound). HasCome b d s matters [] q w1) (sym queue) (subst (λ (y : Work). HasCome b d s matters [] [] y) (sym none.0) come) in
+    λ s matters come. subst (λ (q : List Outbound). HasCome b d s matters [] q w1) (sym queue) (requeued_come b d s matters [] [] w w1 none.0 come) in
     let items : w1.items ≡ [] = ap (λ (y : Work). y.items) none.0 ∙ fresh.items in
     record {
       comes = λ is s matters come. come_it s matters come;

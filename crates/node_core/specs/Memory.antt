@@ -1,5 +1,5 @@
 -- What a node has in memory, and what a step makes of it.
-use Rattle.std.specs.Prelude.{◌≡◌, ◌×◌, ◌++◌, ℕ, Bool, true, false, Option, Some, None, Result, Ok, Err, List, MatchBool}
+use Rattle.std.specs.Prelude.{◌≡◌, ◌++◌, ℕ, Bool, true, false, Option, Some, None, Result, Ok, Err, List, MatchBool}
 use Rattle.cs_base.specs.declared.ids.ReqId.{ReqId}
 use Rattle.row_change.specs.declared.entry.LogItem.{LogItem}
 use Rattle.peer_messages.specs.declared.chronicle.Entry.{Entry}
@@ -57,14 +57,14 @@ is_flush Flush = true
 is_flush Tick = false
 
 -- the node takes the event at this time, and has made nothing of it yet
-pub record IsBegun (m : Memory) (time : ℕ) (e : Event) (x : Begun) : Type 0 where
+pub record IsBegun (m : Memory) (t : ℕ) (e : Event) (x : Begun) : Type 0 where
   pub what : x.what ≡ looked_at m.time e
   pub fresh : IsFresh x.made.work
-  pub time : x.made.work.time ≡ time
-  pub ceiling : x.made.work.ceiling ≡ ceiling_after m.kept.ceiling time
-  pub about : IsAbout m.base.me time x.what x.made.work.request
-  pub started : x.made.started ≡ started_by m.base.me time e.what
-  pub refused : x.made.refused ≡ is_refused m.base.setting m.time time e e.what
+  pub time : x.made.work.time ≡ t
+  pub ceiling : x.made.work.ceiling ≡ ceiling_after m.kept.ceiling t
+  pub about : IsAbout m.base.me t x.what x.made.work.request
+  pub started : x.made.started ≡ started_by m.base.me t e.what
+  pub refused : x.made.refused ≡ is_refused m.base.setting m.time t e e.what
   pub flushes : x.made.flushes ≡ is_flush e.what
 
 -- ---- and is kept
@@ -104,9 +104,9 @@ pub record AreOutputsOf (x : Made) (o : Outputs) : Type 0 where
 
 -- ---- or is not
 
-pub record IsLost (started : Option ReqId) (entries : List Entry) (l : Lost) : Type 0 where
-  pub started : l.started ≡ started
-  pub entries : l.entries ≡ entries
+pub record IsLost (request : Option ReqId) (made : List Entry) (l : Lost) : Type 0 where
+  pub started : l.started ≡ request
+  pub entries : l.entries ≡ made
 
 -- what the node tells where its replica refuses the entry
 abbrev pub IsRefusal : RoomError → Option ReqId → List Entry → StepError → Type 0

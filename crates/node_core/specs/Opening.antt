@@ -58,10 +58,10 @@ pub record AreOrdered (b : Base) : Type 0 where
   pub reads : IsOrdered request_cmp b.reads
 
 -- what the step began is put in
-pub record IsOpenedAs (id : ReqId) (write : Slot OpenWrite) (read : Slot OpenRead) (b : Base) (o : Opened) (b' : Base) : Type 0 where
-  pub known : known_of b' ≡ record (known_of b) { writes = with_begun id write b.writes.entries; reads = with_begun id read b.reads.entries }
-  pub write : IsRestOf write o.write
-  pub read : IsRestOf read o.read
+pub record IsOpenedAs (id : ReqId) (w : Slot OpenWrite) (r : Slot OpenRead) (b : Base) (o : Opened) (b' : Base) : Type 0 where
+  pub known : known_of b' ≡ record (known_of b) { writes = with_begun id w b.writes.entries; reads = with_begun id r b.reads.entries }
+  pub write : IsRestOf w o.write
+  pub read : IsRestOf r o.read
 
 -- the rest is put in, and the nodes that are taken for dead
 abbrev pub known_with : ReqId → Opened → Option (List ℕ) → Base → Known

@@ -117,9 +117,10 @@ impl Made {
     fn lost(self) -> Lost
         ensures { IsLost self.started self.work.entries result }
     {
+        let Made { work, started, .. } = self;
         Lost {
-            started: self.started,
-            entries: self.work.entries,
+            started,
+            entries: work.entries,
         }
     }
 }

@@ -1,5 +1,7 @@
-use Rattle.std.proofs.Common.{sym}
-use Rattle.std.proofs.lemmas.Result.{IfOk-weaker}
+use Rattle.std.proofs.Common.{◌≡◌, Err, ap}
+use Rattle.std.proofs.lemmas.Result.{IfOk-weaker, err_from_is_err_and}
+use Rattle.replica.specs.declared.error.CallError.{CallError}
+use Rattle.replica.specs.declared.error.CallError.TheVariants as call_error
 use Rattle.node_core.proofs.Looking.{peeks_on}
 use Rattle.node_core.proofs.Taking.{same_cut, settled_at, taken, worked_cut, worked_out}
 use Rattle.node_core.proofs.matter.work_out.Goals as goal
@@ -23,3 +25,9 @@ returns-clause-cut g c =
 
 pub returns-clause-peeks : goal.returns-clause-peeks
 returns-clause-peeks g c = peeks_on _ _ _ _ _ _ c.args.replica.now c.take.new.replica c.settle.new.replica c.in_ok-given.ensures.peeks c.settle.ensures.peeks
+
+pub returns-in_err-given-clause-cut : goal.returns-in_err-given-clause-cut
+returns-in_err-given-clause-cut g c = λ failed honest.
+    let e = err_from_is_err_and c.from_residual.result c.from_residual.ensures.1 in
+    let error : c.in_err-given.field-0.0 ≡ call_error.Failed = cc (e.1, e.2, failed) in
+    same_cut c.args.base.now (g.R.Replica.durable c.args.replica.now) _ c.args.work.now c.take.new.work c.requires.fresh (c.in_err-given.ensures.same (ap (λ (x : CallError). Err x) error)) (c.in_err-given.ensures.asks (ap (λ (x : CallError). Err x) error))
