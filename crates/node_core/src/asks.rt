@@ -120,12 +120,12 @@ impl Work {
         base: &Base,
         alloc: Global,
         level: Level,
-        query: &Query,
+        query: Query,
         columns: Columns,
     ) -> Result<Given, AllocError>
-        ensures { IfOk result (AsksRead base.now level query.now columns self.old self.new) }
+        ensures { IfOk result (AsksRead base.now level query columns self.old self.new) }
     {
-        let read = ReadCoord::start(alloc, level, query)?;
+        let read = ReadCoord::start(alloc, level, &query)?;
         let down = base.down.as_slice();
         let id = self.request;
         let turn = read_coord::opening(alloc, &base.setting, down, id, level, query, columns)?;
@@ -138,13 +138,13 @@ impl Work {
         base: &Base,
         alloc: Global,
         level: Level,
-        query: &Query,
+        query: Query,
         columns: Columns,
     ) -> Result<Given, AllocError>
-        ensures asks { IfOk result (AsksAs base.now (Read query.now columns) level self.old self.new) }
+        ensures asks { IfOk result (AsksAs base.now (Read query columns) level self.old self.new) }
         ensures begins { IfOk result (Begins base.now self.old self.new) }
     {
-        let fits = query_fits(&base.setting, query);
+        let fits = query_fits(&base.setting, &query);
         let down = base.down.as_slice();
         match refusal_at(
             &base.setting,
@@ -168,7 +168,7 @@ impl Work {
         let Ask { plan, level } = ask;
         match plan {
             Plan::Write(draft) => self.ask_write(base, alloc, level, &draft),
-            Plan::Read(query, columns) => self.ask_read(base, alloc, level, &query, columns),
+            Plan::Read(query, columns) => self.ask_read(base, alloc, level, query, columns),
             Plan::Use(keyspace) => Given::tells(alloc, Entry::Used(self.request, keyspace)),
             Plan::Invalid(fault) => {
                 let refusal = Refusal::Invalid(Invalid::Statement(fault));

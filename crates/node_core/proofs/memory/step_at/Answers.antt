@@ -1,11 +1,12 @@
-use Rattle.std.proofs.Common.{◌≡◌, ◌≤◌, ℕ, List, Result, Ok, Err, IfOk, OnOk, OnErr, IsErrOf, refl, sym, ap, subst, ◌∙◌, arith}
+use Rattle.std.proofs.Common.{rules, ◌≡◌, ◌≤◌, ℕ, List, Result, Ok, Err, IfOk, OnOk, OnErr, IsErrOf, refl, sym, ap, subst, ◌∙◌, arith}
 use Rattle.row_change.specs.declared.entry.LogItem.{LogItem}
 use Rattle.durable_state.specs.State.{Durable}
 use Rattle.durable_state.specs.Keeping.{Commits, IsWithOrWithout}
 use Rattle.replica.specs.Finding.{AlwaysLeaves}
 use Rattle.replica.specs.Kept.{IsKeptOf}
 use Rattle.replica.specs.Lengths.{IsFirstTooLarge}
-use Rattle.node_core.specs.Memory.{entry_made}
+use Rattle.replica.specs.declared.error.CallError.TheVariants as call_error
+use Rattle.node_core.specs.Memory.{core_of, entry_made}
 use Rattle.node_core.specs.Nodes.{OverflowsLog}
 use Rattle.node_core.proofs.Answered.{ok_here, risen_later}
 use Rattle.node_core.proofs.Ending.{begun_about, begun_later, begun_new, begun_started, begun_within, held_kept, same_kept, lost_as, steps_kept, tied_kept}
@@ -89,12 +90,13 @@ returns-in-Err-Failed-clause-whole g c = λ on. absurd (on c.lost.result refl)
 
 pub returns-in-Err-Failed-clause-halts : goal.returns-in-Err-Failed-clause-halts
 returns-in-Err-Failed-clause-halts g c = λ l told honest.
-    let cut = cut_at c.args.memory.now (g.R.Replica.durable c.args.replica.now) c.args.event c.args.time c.begin-what.result c.work_out.new.work c.requires.time c.begin-what.ensures (c.work_out.ensures.cut c.in-Err-Failed.is honest) (c.requires.tied honest) in
+    let failed : IsErrOf c.work_out.result call_error.Failed = search rules in
+    let cut = cut_at c.args.memory.now (g.R.Replica.durable c.args.replica.now) c.args.event c.args.time c.begin-what.result c.work_out.new.work c.requires.time c.begin-what.ensures (c.work_out.ensures.cut failed honest) (c.requires.tied honest) in
     look_halts _ c.args.memory.now (g.R.Replica.durable c.args.replica.now) c.args.event c.work_out.new.work c.begin-what.result.made.started l _ _ cut (begun_started c.args.memory.now c.args.time c.args.event c.begin-what.result c.begin-what.ensures c.requires.time)
     (lost_as c.begin-what.result.made.started c.work_out.new.work.entries c.lost.result l told c.lost.ensures) (c.work_out.ensures.peeks.looked honest).leaves
 
 pub returns-in-Err-Failed-clause-any_moment : goal.returns-in-Err-Failed-clause-any_moment
-returns-in-Err-Failed-clause-any_moment g c = λ honest. look_leaves _ _ _ _ _ _ (c.work_out.ensures.peeks.looked honest).leaves
+returns-in-Err-Failed-clause-any_moment g c = λ honest. look_leaves g.R.Replica.stands_for (core_of c.args.memory.now) (g.R.Replica.durable c.args.replica.now) c.args.event (g.R.Disk.Store.disk (g.R.Replica.disk c.args.replica.now)) (g.R.Disk.Store.disk (g.R.Replica.disk c.work_out.new.replica)) (c.work_out.ensures.peeks.looked honest).leaves
 
 pub returns-in-Err-NoMemory-clause-any_moment : goal.returns-in-Err-NoMemory-clause-any_moment
-returns-in-Err-NoMemory-clause-any_moment g c = λ honest. look_leaves _ _ _ _ _ _ (c.work_out.ensures.peeks.looked honest).leaves
+returns-in-Err-NoMemory-clause-any_moment g c = λ honest. look_leaves g.R.Replica.stands_for (core_of c.args.memory.now) (g.R.Replica.durable c.args.replica.now) c.args.event (g.R.Disk.Store.disk (g.R.Replica.disk c.args.replica.now)) (g.R.Disk.Store.disk (g.R.Replica.disk c.work_out.new.replica)) (c.work_out.ensures.peeks.looked honest).leaves
