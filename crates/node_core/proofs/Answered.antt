@@ -1,5 +1,5 @@
 -- What a call answers, put together from its clauses.
-use Rattle.std.proofs.Common.{◌≡◌, ◌≢◌, ◌<◌, ◌≤◌, ℕ, inl, inr, Bool, true, false, Result, Ok, Err, IsErrOf, IfOk, OnOk, OnErr, refl, sym, ap, subst, ◌∙◌, arith}
+use Rattle.std.proofs.Common.{◌≡◌, ◌≢◌, ◌<◌, ◌≤◌, ℕ, inl, inr, Bool, true, false, Result, Ok, Err, IsErrOf, IsOk, IfOk, OnOk, OnErr, refl, sym, ap, subst, ◌∙◌, arith}
 use Rattle.std.specs.Prelude.{not}
 use Rattle.std.proofs.lemmas.Bool.{cases_lt}
 use Rattle.cs_base.specs.Faults.{HasRisen}
@@ -37,10 +37,13 @@ risen_later before mid now p q (inr r) = elim (cases_lt before now) [ inl less �
 pub one_lost : (k l : Lost) → (let r : Told = Err (Failed k) in IsErrOf r (Failed l)) → k ≡ l
 one_lost k l h = cc
 
--- ---- whether a node goes on
-
 false_true : false ≡ true → ⊥
 false_true e = cc
+
+pub err_not_ok : {T E : Type 0} (r : Result T E) (e : E) → r ≡ Err e → IsOk r → ⊥
+err_not_ok {T} {E} r e is ok = false_true (subst (λ (x : Result T E). IsOk x) is ok)
+
+-- ---- whether a node goes on
 
 ok_err : (o : Outputs) (e : StepError) → (let r : Told = Ok o in IsErrOf r e) → ⊥
 ok_err o e h = cc

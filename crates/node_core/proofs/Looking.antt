@@ -16,13 +16,14 @@ looked_on {R} st disk durable a b c first next = record {
   leaves = leaves_on st (IsSameKept (durable a)) (disk a) (disk b) (disk c) first.leaves (subst (λ (d : Durable). AlwaysLeaves st (IsSameKept d) (disk b) (disk c)) first.same next.leaves);
 }
 
-pub peeks_none : {R : Type 0} (st : (ℕ → List ℕ) → Durable → Type 0) (disk : R → Disk) (durable : R → Durable) (log_end count : R → ℕ) (honest : Type 0) (r : R) → (honest → IsSafe st (durable r) (disk r)) → Peeks st disk durable log_end count honest r r
-peeks_none {R} st disk durable log_end count honest r safe = record { looked = λ is. looked_still st disk durable r (safe is); log = refl; faults = omega arith }
+pub peeks_none : {R : Type 0} (st : (ℕ → List ℕ) → Durable → Type 0) (disk : R → Disk) (durable : R → Durable) (log_end count : R → ℕ) (spares : R → ℕ → Type 0) (honest : Type 0) (r : R) → (honest → IsSafe st (durable r) (disk r)) → Peeks st disk durable log_end count spares honest r r
+peeks_none {R} st disk durable log_end count spares honest r safe = record { looked = λ is. looked_still st disk durable r (safe is); log = refl; faults = omega arith; spared = λ all. all }
 
-pub peeks_on : {R : Type 0} (st : (ℕ → List ℕ) → Durable → Type 0) (disk : R → Disk) (durable : R → Durable) (log_end count : R → ℕ) (honest : Type 0) (a b c : R) → Peeks st disk durable log_end count honest a b → Peeks st disk durable log_end count honest b c
-    → Peeks st disk durable log_end count honest a c
-peeks_on {R} st disk durable log_end count honest a b c first next = record {
+pub peeks_on : {R : Type 0} (st : (ℕ → List ℕ) → Durable → Type 0) (disk : R → Disk) (durable : R → Durable) (log_end count : R → ℕ) (spares : R → ℕ → Type 0) (honest : Type 0) (a b c : R) → Peeks st disk durable log_end count spares honest a b → Peeks st disk durable log_end count spares honest b c
+    → Peeks st disk durable log_end count spares honest a c
+peeks_on {R} st disk durable log_end count spares honest a b c first next = record {
   looked = λ is. looked_on st disk durable a b c (first.looked is) (next.looked is);
   log = next.log ∙ first.log;
   faults = let x = first.faults in let y = next.faults in omega arith;
+  spared = λ all. next.spared (first.spared all);
 }

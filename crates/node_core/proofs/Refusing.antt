@@ -4,6 +4,8 @@ use Rattle.cs_base.specs.declared.ids.ReqId.{ReqId}
 use Rattle.changes.specs.declared.Partition.{Partition}
 use Rattle.peer_messages.specs.declared.chronicle.Entry.{Entry}
 use Rattle.peer_messages.specs.declared.outcome.Outputs.{Outputs}
+use Rattle.replica.specs.declared.error.CallError.{CallError}
+use Rattle.replica.specs.declared.error.CallError.TheVariants as call_error
 use Rattle.replica.specs.declared.error.RoomError.{RoomError}
 use Rattle.replica.specs.declared.error.RoomError.TheVariants as room_error
 use Rattle.node_core.specs.declared.outcome.Lost.{Lost}
@@ -35,6 +37,18 @@ one_large p q e = cc
 
 one_lost : (k l : Lost) → Failed k ≡ Failed l → k ≡ l
 one_lost k l e = cc
+
+room_errors : room_error.NoMemory ≡ room_error.Failed → ⊥
+room_errors e = cc
+
+pub call_failed : (e : CallError) (told : RoomError) → (e ≡ call_error.NoMemory → told ≡ room_error.NoMemory) → (let r : Result ℕ RoomError = Err told in IsErrOf r room_error.Failed) → e ≡ call_error.Failed
+call_failed call_error.Failed told no_memory failed = refl
+call_failed call_error.NoMemory told no_memory failed =
+    let x : told ≡ room_error.Failed = one_room told room_error.Failed failed in
+    absurd (room_errors (sym (no_memory refl) ∙ x))
+  where
+    one_room : (a b : RoomError) → (let r : Result ℕ RoomError = Err a in IsErrOf r b) → a ≡ b
+    one_room a b h = cc
 
 pub told_one : (a b : StepError) → (let r : Told = Err a in IsErrOf r b) → a ≡ b
 told_one a b h = cc

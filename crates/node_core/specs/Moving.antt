@@ -227,7 +227,8 @@ pub record IsWorkedOut (b : Base) (honest : Type 0) (d : Durable) (left : List A
 
 -- ---- a replica that is looked at, and keeps what it kept
 
-pub record Peeks {R : Type 0} (stands_for : (ℕ → List ℕ) → Durable → Type 0) (disk : R → Disk) (durable : R → Durable) (log_end count : R → ℕ) (honest : Type 0) (old new : R) : Type 0 where
+pub record Peeks {R : Type 0} (stands_for : (ℕ → List ℕ) → Durable → Type 0) (disk : R → Disk) (durable : R → Durable) (log_end count : R → ℕ) (spares : R → ℕ → Type 0) (honest : Type 0) (old new : R) : Type 0 where
   pub looked : honest → Looked stands_for disk durable old new
   pub log : log_end new ≡ log_end old
   pub faults : count old ≤ count new
+  pub spared : ((n : ℕ) → spares old n) → (n : ℕ) → spares new n

@@ -1,6 +1,6 @@
 //! How a node hears a body in a step.
 
-ghost use Rattle.std.specs.Prelude.{◌≡◌, ◌∷◌, ◌++◌, [], Contains, IfOk, OnOk, IsErrOf};
+ghost use Rattle.std.specs.Prelude.{◌≡◌, ◌∷◌, ◌++◌, ℕ, [], Contains, IfOk, OnOk, IsErrOf};
 ghost use Rattle.std.specs.List.{AllByRecursion};
 ghost use Rattle.std.specs.BTreeMap.{IsOrdered};
 ghost use Rattle.cs_base.specs.Faults.{HasRisen};
@@ -68,9 +68,10 @@ impl Heard {
 fn held<R: Replica>(replica: &mut R, alloc: Global, query: &Query) -> Result<Content, CallError>
     requires whole { R.is_whole replica.old }
     ensures ok { IfOk result (λ part. R.Disk.is_honest → IsAnswerTo (changes_of (R.durable replica.old).content) query.now part) }
-    ensures peeks { Peeks R.stands_for (λ r. R.Disk.disk (R.disk r)) R.durable R.log_end (λ r. R.Disk.faults (R.disk r)) R.Disk.is_honest replica.old replica.new }
+    ensures peeks { Peeks R.stands_for (λ r. R.Disk.disk (R.disk r)) R.durable R.log_end (λ r. R.Disk.faults (R.disk r)) (λ r n. R.Disk.spares (R.disk r) n) R.Disk.is_honest replica.old replica.new }
     ensures whole { (IsErrOf result call_error.Failed → ⊥) → R.is_whole replica.new }
     ensures failed { IsErrOf result call_error.Failed → HasRisen (R.Disk.faults (R.disk replica.old)) (R.Disk.faults (R.disk replica.new)) }
+    ensures surely { IsErrOf result call_error.Failed → ((n : ℕ) → R.Disk.spares (R.disk replica.old) n) → ⊥ }
 {
     replica.content(alloc, &query.partition, &query.from, &query.upto)
 }
@@ -171,9 +172,10 @@ fn answer<R: Replica>(
     requires whole { R.is_whole replica.old }
     requires items { (time : _) × AllByRecursion (IsDataAt time) items.now }
     ensures ok { IfOk result (λ part. R.Disk.is_honest → AnswersBehind items.now (R.durable replica.old) query.now part) }
-    ensures peeks { Peeks R.stands_for (λ r. R.Disk.disk (R.disk r)) R.durable R.log_end (λ r. R.Disk.faults (R.disk r)) R.Disk.is_honest replica.old replica.new }
+    ensures peeks { Peeks R.stands_for (λ r. R.Disk.disk (R.disk r)) R.durable R.log_end (λ r. R.Disk.faults (R.disk r)) (λ r n. R.Disk.spares (R.disk r) n) R.Disk.is_honest replica.old replica.new }
     ensures whole { (IsErrOf result call_error.Failed → ⊥) → R.is_whole replica.new }
     ensures failed { IsErrOf result call_error.Failed → HasRisen (R.Disk.faults (R.disk replica.old)) (R.Disk.faults (R.disk replica.new)) }
+    ensures surely { IsErrOf result call_error.Failed → ((n : ℕ) → R.Disk.spares (R.disk replica.old) n) → ⊥ }
 {
     let part = held(replica, alloc, query)?;
     Ok(behind_all(alloc, part, items, query)?)
@@ -190,9 +192,10 @@ fn read_for<R: Replica>(
     requires items { (time : _) × AllByRecursion (IsDataAt time) items.now }
     ensures ok { IfOk result (λ part. R.Disk.is_honest → IsReadFor items.now (R.durable replica.old) body.now part) }
     ensures there { IfOk result (λ part. HasPart body.now part) }
-    ensures peeks { Peeks R.stands_for (λ r. R.Disk.disk (R.disk r)) R.durable R.log_end (λ r. R.Disk.faults (R.disk r)) R.Disk.is_honest replica.old replica.new }
+    ensures peeks { Peeks R.stands_for (λ r. R.Disk.disk (R.disk r)) R.durable R.log_end (λ r. R.Disk.faults (R.disk r)) (λ r n. R.Disk.spares (R.disk r) n) R.Disk.is_honest replica.old replica.new }
     ensures whole { (IsErrOf result call_error.Failed → ⊥) → R.is_whole replica.new }
     ensures failed { IsErrOf result call_error.Failed → HasRisen (R.Disk.faults (R.disk replica.old)) (R.Disk.faults (R.disk replica.new)) }
+    ensures surely { IsErrOf result call_error.Failed → ((n : ℕ) → R.Disk.spares (R.disk replica.old) n) → ⊥ }
 {
     match body {
         Body::Read(query) => Ok(Some(answer(replica, alloc, items, query)?)),
@@ -320,9 +323,10 @@ pub(crate) fn hear<R: Replica>(
     requires fits { BodyFits heard.body }
     ensures ok { IfOk result (λ given. IsHeard base.now R.Disk.is_honest (R.durable replica.old) work.old heard given work.new) }
     ensures same { IsErrOf result call_error.Failed → work.new ≡ work.old }
-    ensures peeks { Peeks R.stands_for (λ r. R.Disk.disk (R.disk r)) R.durable R.log_end (λ r. R.Disk.faults (R.disk r)) R.Disk.is_honest replica.old replica.new }
+    ensures peeks { Peeks R.stands_for (λ r. R.Disk.disk (R.disk r)) R.durable R.log_end (λ r. R.Disk.faults (R.disk r)) (λ r n. R.Disk.spares (R.disk r) n) R.Disk.is_honest replica.old replica.new }
     ensures whole { (IsErrOf result call_error.Failed → ⊥) → R.is_whole replica.new }
     ensures failed { IsErrOf result call_error.Failed → HasRisen (R.Disk.faults (R.disk replica.old)) (R.Disk.faults (R.disk replica.new)) }
+    ensures surely { IsErrOf result call_error.Failed → ((n : ℕ) → R.Disk.spares (R.disk replica.old) n) → ⊥ }
 {
     if is_old(&base.setting, work.time, heard.born) {
         return Ok(Given::nothing(alloc));
@@ -350,9 +354,10 @@ pub(crate) fn hear_own<R: Replica>(
     requires own { IsOwn base.now.me work.old.request sent }
     ensures ok { OnOk result (GoesBy base.now R.Disk.is_honest (R.durable replica.old) sent work.old work.new) }
     ensures same { IsErrOf result call_error.Failed → work.new ≡ work.old }
-    ensures peeks { Peeks R.stands_for (λ r. R.Disk.disk (R.disk r)) R.durable R.log_end (λ r. R.Disk.faults (R.disk r)) R.Disk.is_honest replica.old replica.new }
+    ensures peeks { Peeks R.stands_for (λ r. R.Disk.disk (R.disk r)) R.durable R.log_end (λ r. R.Disk.faults (R.disk r)) (λ r n. R.Disk.spares (R.disk r) n) R.Disk.is_honest replica.old replica.new }
     ensures whole { (IsErrOf result call_error.Failed → ⊥) → R.is_whole replica.new }
     ensures failed { IsErrOf result call_error.Failed → HasRisen (R.Disk.faults (R.disk replica.old)) (R.Disk.faults (R.disk replica.new)) }
+    ensures surely { IsErrOf result call_error.Failed → ((n : ℕ) → R.Disk.spares (R.disk replica.old) n) → ⊥ }
 {
     let given = hear(base, replica, alloc, work, Heard::own(base.me, sent))?;
     Ok(work.give(base.me, given)?)

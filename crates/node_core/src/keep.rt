@@ -1,6 +1,6 @@
 //! The one commit of a step.
 
-ghost use Rattle.std.specs.Prelude.{◌≡◌, ◌≤◌, OnOk, OnErr, IsErrOf, IfOk};
+ghost use Rattle.std.specs.Prelude.{◌≡◌, ◌≤◌, ℕ, OnOk, OnErr, IsErrOf, IfOk};
 ghost use Rattle.cs_base.specs.Faults.{HasRisen};
 ghost use Rattle.row_change.specs.Spelling.{EntryFits};
 ghost use Rattle.durable_state.specs.Keeping.{Commits, IsWithOrWithout};
@@ -46,6 +46,8 @@ pub(crate) fn keep<R: Replica>(
     ensures no_room { IsErrOf result room_error.NoRoom → R.Disk.is_honest → OverflowsLog (R.log_end replica.old) (R.durable replica.old) entry.now.items }
     ensures failed { IsErrOf result room_error.Failed → HasRisen (R.Disk.faults (R.disk replica.old)) (R.Disk.faults (R.disk replica.new)) }
     ensures faults { R.Disk.faults (R.disk replica.old) ≤ R.Disk.faults (R.disk replica.new) }
+    ensures surely { IsErrOf result room_error.Failed → ((n : ℕ) → R.Disk.spares (R.disk replica.old) n) → ⊥ }
+    ensures spared { ((n : ℕ) → R.Disk.spares (R.disk replica.old) n) → (n : ℕ) → R.Disk.spares (R.disk replica.new) n }
 
     // A crash at any moment leaves what was kept before the call, with the entry or without.
     ensures any_moment { R.Disk.is_honest → AlwaysLeaves R.stands_for (IsWithOrWithout entry.now.items (R.durable replica.old)) (R.Disk.disk (R.disk replica.old)) (R.Disk.disk (R.disk replica.new)) }
@@ -82,6 +84,8 @@ pub(crate) fn keep_and_flush<R: Replica>(
     ensures no_room { IsErrOf result room_error.NoRoom → R.Disk.is_honest → OverflowsLog (R.log_end replica.old) (R.durable replica.old) entry.now.items }
     ensures failed { IsErrOf result room_error.Failed → HasRisen (R.Disk.faults (R.disk replica.old)) (R.Disk.faults (R.disk replica.new)) }
     ensures faults { R.Disk.faults (R.disk replica.old) ≤ R.Disk.faults (R.disk replica.new) }
+    ensures surely { IsErrOf result room_error.Failed → ((n : ℕ) → R.Disk.spares (R.disk replica.old) n) → ⊥ }
+    ensures spared { ((n : ℕ) → R.Disk.spares (R.disk replica.old) n) → (n : ℕ) → R.Disk.spares (R.disk replica.new) n }
 
     // A crash at any moment leaves what was kept before the call, with the entry or without.
     ensures any_moment { R.Disk.is_honest → AlwaysLeaves R.stands_for (IsWithOrWithout entry.now.items (R.durable replica.old)) (R.Disk.disk (R.disk replica.old)) (R.Disk.disk (R.disk replica.new)) }
@@ -116,6 +120,8 @@ fn write<R: Replica>(
     ensures no_room { IsErrOf result room_error.NoRoom → R.Disk.is_honest → OverflowsLog (R.log_end replica.old) (R.durable replica.old) entry.now.items }
     ensures failed { IsErrOf result room_error.Failed → HasRisen (R.Disk.faults (R.disk replica.old)) (R.Disk.faults (R.disk replica.new)) }
     ensures faults { R.Disk.faults (R.disk replica.old) ≤ R.Disk.faults (R.disk replica.new) }
+    ensures surely { IsErrOf result room_error.Failed → ((n : ℕ) → R.Disk.spares (R.disk replica.old) n) → ⊥ }
+    ensures spared { ((n : ℕ) → R.Disk.spares (R.disk replica.old) n) → (n : ℕ) → R.Disk.spares (R.disk replica.new) n }
 
     // A crash at any moment leaves what was kept before the call, with the entry or without.
     ensures any_moment { R.Disk.is_honest → AlwaysLeaves R.stands_for (IsWithOrWithout entry.now.items (R.durable replica.old)) (R.Disk.disk (R.disk replica.old)) (R.Disk.disk (R.disk replica.new)) }
@@ -153,6 +159,8 @@ pub(crate) fn commit<R: Replica>(
     ensures no_room { IsErrOf result room_error.NoRoom → R.Disk.is_honest → OverflowsLog (R.log_end replica.old) (R.durable replica.old) entry.now.items }
     ensures failed { IsErrOf result room_error.Failed → HasRisen (R.Disk.faults (R.disk replica.old)) (R.Disk.faults (R.disk replica.new)) }
     ensures faults { R.Disk.faults (R.disk replica.old) ≤ R.Disk.faults (R.disk replica.new) }
+    ensures surely { IsErrOf result room_error.Failed → ((n : ℕ) → R.Disk.spares (R.disk replica.old) n) → ⊥ }
+    ensures spared { ((n : ℕ) → R.Disk.spares (R.disk replica.old) n) → (n : ℕ) → R.Disk.spares (R.disk replica.new) n }
 
     // A crash at any moment leaves what was kept before the call, with the entry or without.
     ensures any_moment { R.Disk.is_honest → AlwaysLeaves R.stands_for (IsWithOrWithout entry.now.items (R.durable replica.old)) (R.Disk.disk (R.disk replica.old)) (R.Disk.disk (R.disk replica.new)) }

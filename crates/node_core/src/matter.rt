@@ -1,6 +1,6 @@
 //! What a step makes of its event, in memory: the event's own matter, and all that comes of it at the node itself.
 
-ghost use Rattle.std.specs.Prelude.{◌≡◌, ◌<◌, ◌≤◌, ◌^◌, [], IfOk, OnOk, IsErrOf};
+ghost use Rattle.std.specs.Prelude.{◌≡◌, ◌<◌, ◌≤◌, ◌^◌, ℕ, [], IfOk, OnOk, IsErrOf};
 ghost use Rattle.std.specs.BTreeMap.{IsOrdered};
 ghost use Rattle.cs_base.specs.Faults.{HasRisen};
 ghost use Rattle.cs_base.specs.Requests.{request_cmp};
@@ -83,9 +83,10 @@ fn take_message<R: Replica>(
     requires request { message.request ≡ work.old.request }
     ensures ok { IfOk result (λ given. TakesMatters base.now R.Disk.is_honest (R.durable replica.old) work.old (heard_matter base.now.setting base.now.me message) given work.new) }
     ensures same { IsErrOf result call_error.Failed → work.new ≡ work.old }
-    ensures peeks { Peeks R.stands_for (λ r. R.Disk.disk (R.disk r)) R.durable R.log_end (λ r. R.Disk.faults (R.disk r)) R.Disk.is_honest replica.old replica.new }
+    ensures peeks { Peeks R.stands_for (λ r. R.Disk.disk (R.disk r)) R.durable R.log_end (λ r. R.Disk.faults (R.disk r)) (λ r n. R.Disk.spares (R.disk r) n) R.Disk.is_honest replica.old replica.new }
     ensures whole { (IsErrOf result call_error.Failed → ⊥) → R.is_whole replica.new }
     ensures failed { IsErrOf result call_error.Failed → HasRisen (R.Disk.faults (R.disk replica.old)) (R.Disk.faults (R.disk replica.new)) }
+    ensures surely { IsErrOf result call_error.Failed → ((n : ℕ) → R.Disk.spares (R.disk replica.old) n) → ⊥ }
 {
     if !message_fits(&base.setting, base.me, &message) {
         return Ok(Given::nothing(alloc));
@@ -111,9 +112,10 @@ fn take<R: Replica>(
     ensures ok { IfOk result (λ given. TakesMatters base.now R.Disk.is_honest (R.durable replica.old) work.old (matter_of base.now.setting base.now.me what) given work.new) }
     ensures same { IsErrOf result call_error.Failed → work.new ≡ work.old }
     ensures asks { IsErrOf result call_error.Failed → AskNothing (matter_of base.now.setting base.now.me what) }
-    ensures peeks { Peeks R.stands_for (λ r. R.Disk.disk (R.disk r)) R.durable R.log_end (λ r. R.Disk.faults (R.disk r)) R.Disk.is_honest replica.old replica.new }
+    ensures peeks { Peeks R.stands_for (λ r. R.Disk.disk (R.disk r)) R.durable R.log_end (λ r. R.Disk.faults (R.disk r)) (λ r n. R.Disk.spares (R.disk r) n) R.Disk.is_honest replica.old replica.new }
     ensures whole { (IsErrOf result call_error.Failed → ⊥) → R.is_whole replica.new }
     ensures failed { IsErrOf result call_error.Failed → HasRisen (R.Disk.faults (R.disk replica.old)) (R.Disk.faults (R.disk replica.new)) }
+    ensures surely { IsErrOf result call_error.Failed → ((n : ℕ) → R.Disk.spares (R.disk replica.old) n) → ⊥ }
 {
     match what {
         What::Client(ask) => Ok(work.ask(base, alloc, ask)?),
@@ -136,9 +138,10 @@ fn settle<R: Replica>(
     requires sound { IsSound base.now work.old }
     ensures ok { OnOk result (IsSettled base.now R.Disk.is_honest (R.durable replica.old) work.old work.new) }
     ensures cut { IsErrOf result call_error.Failed → CutsOn base.now work.old work.new }
-    ensures peeks { Peeks R.stands_for (λ r. R.Disk.disk (R.disk r)) R.durable R.log_end (λ r. R.Disk.faults (R.disk r)) R.Disk.is_honest replica.old replica.new }
+    ensures peeks { Peeks R.stands_for (λ r. R.Disk.disk (R.disk r)) R.durable R.log_end (λ r. R.Disk.faults (R.disk r)) (λ r n. R.Disk.spares (R.disk r) n) R.Disk.is_honest replica.old replica.new }
     ensures whole { (IsErrOf result call_error.Failed → ⊥) → R.is_whole replica.new }
     ensures failed { IsErrOf result call_error.Failed → HasRisen (R.Disk.faults (R.disk replica.old)) (R.Disk.faults (R.disk replica.new)) }
+    ensures surely { IsErrOf result call_error.Failed → ((n : ℕ) → R.Disk.spares (R.disk replica.old) n) → ⊥ }
 {
     while let Some(sent) = work.queue.pop_front() {
         hear_own(base, replica, alloc, work, sent)?;
@@ -163,9 +166,10 @@ pub(crate) fn work_out<R: Replica>(
     requires time { work.old.time < 2 ^ 63 }
     ensures ok { OnOk result (IsWorkedOut base.now R.Disk.is_honest (R.durable replica.old) (matter_of base.now.setting base.now.me what) work.old work.new) }
     ensures cut { IsErrOf result call_error.Failed → R.Disk.is_honest → CutsIn base.now (R.durable replica.old) (matter_of base.now.setting base.now.me what) work.old work.new }
-    ensures peeks { Peeks R.stands_for (λ r. R.Disk.disk (R.disk r)) R.durable R.log_end (λ r. R.Disk.faults (R.disk r)) R.Disk.is_honest replica.old replica.new }
+    ensures peeks { Peeks R.stands_for (λ r. R.Disk.disk (R.disk r)) R.durable R.log_end (λ r. R.Disk.faults (R.disk r)) (λ r n. R.Disk.spares (R.disk r) n) R.Disk.is_honest replica.old replica.new }
     ensures whole { (IsErrOf result call_error.Failed → ⊥) → R.is_whole replica.new }
     ensures failed { IsErrOf result call_error.Failed → HasRisen (R.Disk.faults (R.disk replica.old)) (R.Disk.faults (R.disk replica.new)) }
+    ensures surely { IsErrOf result call_error.Failed → ((n : ℕ) → R.Disk.spares (R.disk replica.old) n) → ⊥ }
 {
     let given = take(base, replica, alloc, work, what)?;
     work.give(base.me, given)?;

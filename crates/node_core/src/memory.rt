@@ -1,7 +1,7 @@
 //! What a node has in memory, and how it takes an event: all that the event makes is made first, then kept, and only then taken
 //! into memory.
 
-ghost use Rattle.std.specs.Prelude.{◌≡◌, ◌≤◌, ◌<◌, ◌^◌, ◌++◌, length, IfOk, OnOk, OnErr, IsErrOf};
+ghost use Rattle.std.specs.Prelude.{◌≡◌, ◌≤◌, ◌<◌, ◌^◌, ◌++◌, ℕ, length, IfOk, OnOk, OnErr, IsErrOf};
 ghost use Rattle.cs_base.specs.Faults.{HasRisen};
 ghost use Rattle.peer_messages.specs.declared.event.Event.{Event as event_value};
 ghost use Rattle.durable_state.specs.Keeping.{Commits, IsWithOrWithout};
@@ -150,6 +150,8 @@ fn keep_made<R: Replica>(
     ensures lost { (l : _) → IsErrOf result (step_error.Failed l) → IsLost made.started made.work.entries l }
     ensures failed { (l : _) → IsErrOf result (step_error.Failed l) → HasRisen (R.Disk.faults (R.disk replica.old)) (R.Disk.faults (R.disk replica.new)) }
     ensures faults { R.Disk.faults (R.disk replica.old) ≤ R.Disk.faults (R.disk replica.new) }
+    ensures surely { (l : _) → IsErrOf result (step_error.Failed l) → ((n : ℕ) → R.Disk.spares (R.disk replica.old) n) → ⊥ }
+    ensures spared { ((n : ℕ) → R.Disk.spares (R.disk replica.old) n) → (n : ℕ) → R.Disk.spares (R.disk replica.new) n }
 
     // A crash at any moment leaves what was kept before the call, with the entry or without.
     ensures any_moment { R.Disk.is_honest → AlwaysLeaves R.stands_for (IsWithOrWithout (entry_made memory.old made.work) (R.durable replica.old)) (R.Disk.disk (R.disk replica.old)) (R.Disk.disk (R.disk replica.new)) }
@@ -225,6 +227,8 @@ fn step_at<R: Replica>(
     ensures no_room { IsErrOf result step_error.NoRoom → R.Disk.is_honest → HasNoRoom (core_of memory.old) (R.durable replica.old) (R.log_end replica.old) event }
     ensures too_large { (p : _) → IsErrOf result (step_error.TooLarge p) → R.Disk.is_honest → IsTooLarge (core_of memory.old) (R.durable replica.old) event p }
     ensures cause { (l : _) → IsErrOf result (step_error.Failed l) → HasRisen (R.Disk.faults (R.disk replica.old)) (R.Disk.faults (R.disk replica.new)) }
+    ensures surely { (l : _) → IsErrOf result (step_error.Failed l) → ((n : ℕ) → R.Disk.spares (R.disk replica.old) n) → ⊥ }
+    ensures spared { ((n : ℕ) → R.Disk.spares (R.disk replica.old) n) → (n : ℕ) → R.Disk.spares (R.disk replica.new) n }
     ensures halts { (l : _) → IsErrOf result (step_error.Failed l) → R.Disk.is_honest → Halts (core_of memory.old) (R.durable replica.old) event (remains l.started l.entries) R.stands_for (R.Disk.disk (R.disk replica.new)) }
 
     // A crash at any moment of the step leaves what was kept before it or behind it.
@@ -259,6 +263,8 @@ pub(crate) fn advance<R: Replica>(
     ensures no_room { IsErrOf result step_error.NoRoom → R.Disk.is_honest → HasNoRoom (core_of memory.old) (R.durable replica.old) (R.log_end replica.old) event }
     ensures too_large { (p : _) → IsErrOf result (step_error.TooLarge p) → R.Disk.is_honest → IsTooLarge (core_of memory.old) (R.durable replica.old) event p }
     ensures cause { (l : _) → IsErrOf result (step_error.Failed l) → HasRisen (R.Disk.faults (R.disk replica.old)) (R.Disk.faults (R.disk replica.new)) }
+    ensures surely { (l : _) → IsErrOf result (step_error.Failed l) → ((n : ℕ) → R.Disk.spares (R.disk replica.old) n) → ⊥ }
+    ensures spared { ((n : ℕ) → R.Disk.spares (R.disk replica.old) n) → (n : ℕ) → R.Disk.spares (R.disk replica.new) n }
     ensures halts { (l : _) → IsErrOf result (step_error.Failed l) → R.Disk.is_honest → Halts (core_of memory.old) (R.durable replica.old) event (remains l.started l.entries) R.stands_for (R.Disk.disk (R.disk replica.new)) }
 
     // A crash at any moment of the step leaves what was kept before it or behind it.

@@ -56,6 +56,13 @@ fn has_stopped(told: &Result<Outputs, StepError>) -> bool
 }
 
 impl NodeCore {
+    /// The nodes that it takes for dead.
+    pub fn down(&self) -> &[NodeId]
+        ensures { result.now ≡ self.now.down }
+    {
+        self.memory.base.down.as_slice()
+    }
+
     fn loaded(alloc: Global, me: NodeId, setting: Setting, kept: Kept) -> NodeCore
         ensures { result ≡ record { setting = setting; me = me; runs = true; time = kept.ceiling; risen = kept.ceiling; kept = kept; down = []; writes = []; reads = [] } }
     {
@@ -96,6 +103,7 @@ impl NodeCore {
         ensures halts { (l : _) → IsErrOf result (step_error.Failed l) → self.old.runs ≡ true → R.Disk.is_honest → Halts self.old (R.durable replica.old) event (remains l.started l.entries) R.stands_for (R.Disk.disk (R.disk replica.new)) }
         ensures dead { self.old.runs ≡ false → (self.new ≡ self.old) × (replica.new ≡ replica.old) }
         ensures told { (l : _) → IsErrOf result (step_error.Failed l) → self.old.runs ≡ false → remains l.started l.entries ≡ [] }
+        ensures surely { self.old.runs ≡ true → ((n : ℕ) → R.Disk.spares (R.disk replica.old) n) → ((l : _) → IsErrOf result (step_error.Failed l) → ⊥) × ((n : ℕ) → R.Disk.spares (R.disk replica.new) n) }
 
         // A crash at any moment of the step leaves what was kept before it or behind it.
         ensures any_moment { self.old.runs ≡ true → R.Disk.is_honest → AlwaysLeaves R.stands_for (IsBeforeOrBehind self.old (R.durable replica.old) event) (R.Disk.disk (R.disk replica.old)) (R.Disk.disk (R.disk replica.new)) }
@@ -129,9 +137,11 @@ impl<R: Replica> Node<R> {
         // A crash at any moment leaves what was there.
         ensures any_moment { IfOk result (λ n. R.Disk.is_honest → (d : Durable) → R.stands_for (R.Disk.disk store).seen d → AlwaysLeaves R.stands_for (IsSameKept d) (R.Disk.disk store) (R.Disk.disk (R.disk n.replica))) }
         ensures any_moment_failed { (s : _) → IsErrOf result (load_error.Failed s) → R.Disk.is_honest → (d : Durable) → R.stands_for (R.Disk.disk store).seen d → AlwaysLeaves R.stands_for (IsSameKept d) (R.Disk.disk store) (R.Disk.disk s) }
+        ensures any_moment_no_memory { (s : _) → IsErrOf result (load_error.NoMemory s) → R.Disk.is_honest → (d : Durable) → R.stands_for (R.Disk.disk store).seen d → AlwaysLeaves R.stands_for (IsSameKept d) (R.Disk.disk store) (R.Disk.disk s) }
 
         ensures failed { (s : _) → IsErrOf result (load_error.Failed s) → HasRisen (R.Disk.faults store) (R.Disk.faults s) }
         ensures damaged { (s : _) (f p : ℕ) → IsErrOf result (load_error.Damaged s f p) → R.Disk.is_honest → R.is_damaged (R.Disk.disk store).seen f p }
+        ensures surely { ((n : ℕ) → R.Disk.spares store n) → ((s : _) → IsErrOf result (load_error.Failed s) → ⊥) × IfOk result (λ l. (n : ℕ) → R.Disk.spares (R.disk l.replica) n) }
     {
         let (replica, kept) = R::load(alloc, store)?;
         Ok(Node {
@@ -163,6 +173,7 @@ impl<R: Replica> Node<R> {
         ensures halts { (l : _) → IsErrOf result (step_error.Failed l) → self.old.core.runs ≡ true → R.Disk.is_honest → Halts self.old.core (R.durable self.old.replica) event (remains l.started l.entries) R.stands_for (R.Disk.disk (R.disk self.new.replica)) }
         ensures dead { self.old.core.runs ≡ false → (self.new.core ≡ self.old.core) × (self.new.replica ≡ self.old.replica) }
         ensures told { (l : _) → IsErrOf result (step_error.Failed l) → self.old.core.runs ≡ false → remains l.started l.entries ≡ [] }
+        ensures surely { self.old.core.runs ≡ true → ((n : ℕ) → R.Disk.spares (R.disk self.old.replica) n) → ((l : _) → IsErrOf result (step_error.Failed l) → ⊥) × ((n : ℕ) → R.Disk.spares (R.disk self.new.replica) n) }
 
         // A crash at any moment of the step leaves what was kept before it or behind it.
         ensures any_moment { self.old.core.runs ≡ true → R.Disk.is_honest → AlwaysLeaves R.stands_for (IsBeforeOrBehind self.old.core (R.durable self.old.replica) event) (R.Disk.disk (R.disk self.old.replica)) (R.Disk.disk (R.disk self.new.replica)) }

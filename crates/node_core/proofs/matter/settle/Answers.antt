@@ -1,4 +1,7 @@
-use Rattle.std.proofs.Common.{rules, ◌≡◌, ◌<◌, refl, sym, ap, ◌∙◌, arith}
+use Rattle.std.proofs.Common.{rules, ◌≡◌, ◌<◌, Err, refl, sym, ap, ◌∙◌, arith}
+use Rattle.std.proofs.lemmas.Result.{err_from_is_err_and}
+use Rattle.replica.specs.declared.error.CallError.{CallError}
+use Rattle.replica.specs.declared.error.CallError.TheVariants as call_error
 use Rattle.node_core.specs.Working.{weight}
 use Rattle.node_core.proofs.Looking.{peeks_none, peeks_on}
 use Rattle.node_core.proofs.Settling.{along_end, along_more, along_none, by_at, by_lighter, pops_by}
@@ -7,7 +10,7 @@ use Rattle.node_core.proofs.matter.settle.Goals as goal
 pub loop-sent-init : goal.loop-sent-init
 loop-sent-init g c = record {
   along = along_none c.args.base.now _ _ c.args.work.now c.requires.sound;
-  peeks = peeks_none _ _ _ _ _ _ c.args.replica.now (λ honest. g.met.R.Replica.is_safe c.args.replica.now honest c.requires.whole);
+  peeks = peeks_none _ _ _ _ _ _ _ c.args.replica.now (λ honest. g.met.R.Replica.is_safe c.args.replica.now honest c.requires.whole);
   whole = c.requires.whole;
 }
 
@@ -25,13 +28,19 @@ loop-sent-preserved g c =
     record {
       along = along_more c.args.base.now g.R.Disk.Store.is_honest (g.R.Replica.durable c.args.replica.now) c.args.work.now c.loop-sent.work (record c.loop-sent.work { queue = c.pop_front.new.self }) c.hear_own.new.work c.in-Some.sent c.loop-sent.invariant.along pops
           (by_at c.args.base.now g.R.Disk.Store.is_honest (g.R.Replica.durable c.loop-sent.replica) (g.R.Replica.durable c.args.replica.now) c.in-Some.sent (record c.loop-sent.work { queue = c.pop_front.new.self }) c.hear_own.new.work (λ honest. (c.loop-sent.invariant.peeks.looked honest).same) c.in_ok-hear_own.ensures.ok);
-      peeks = peeks_on _ _ _ _ _ _ c.args.replica.now c.loop-sent.replica c.hear_own.new.replica c.loop-sent.invariant.peeks c.hear_own.ensures.peeks;
+      peeks = peeks_on _ _ _ _ _ _ _ c.args.replica.now c.loop-sent.replica c.hear_own.new.replica c.loop-sent.invariant.peeks c.hear_own.ensures.peeks;
       whole = whole;
     }
 
 pub returns-in_err-hear_own-clause-peeks : goal.returns-in_err-hear_own-clause-peeks
-returns-in_err-hear_own-clause-peeks g c = peeks_on _ _ _ _ _ _ c.args.replica.now c.loop-sent.replica c.hear_own.new.replica c.loop-sent.invariant.peeks c.hear_own.ensures.peeks
+returns-in_err-hear_own-clause-peeks g c = peeks_on _ _ _ _ _ _ _ c.args.replica.now c.loop-sent.replica c.hear_own.new.replica c.loop-sent.invariant.peeks c.hear_own.ensures.peeks
 
 pub returns-clause-ok : goal.returns-clause-ok
 returns-clause-ok g c =
     along_end c.args.base.now g.R.Disk.Store.is_honest (g.R.Replica.durable c.args.replica.now) c.args.work.now c.loop-sent.work (record c.loop-sent.work { queue = c.pop_front.new.self }) c.loop-sent.invariant.along refl c.in_default.ensures.items c.in_default.ensures.rest
+
+pub returns-in_err-hear_own-clause-surely : goal.returns-in_err-hear_own-clause-surely
+returns-in_err-hear_own-clause-surely g c = λ failed all.
+    let e = err_from_is_err_and c.from_residual.result c.from_residual.ensures.1 in
+    let error : c.in_err-hear_own.field-0.0 ≡ call_error.Failed = cc (e.1, e.2, failed) in
+    c.in_err-hear_own.ensures.surely (ap (λ (x : CallError). Err x) error) (c.loop-sent.invariant.peeks.spared all)

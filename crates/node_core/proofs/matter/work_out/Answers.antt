@@ -24,10 +24,19 @@ returns-clause-cut g c =
     λ failed honest. worked_cut c.args.base.now g.R.Disk.Store.is_honest (g.R.Replica.durable c.args.replica.now) _ c.args.work.now c.give.new.self c.settle.new.work first (c.settle.ensures.cut failed) honest
 
 pub returns-clause-peeks : goal.returns-clause-peeks
-returns-clause-peeks g c = peeks_on _ _ _ _ _ _ c.args.replica.now c.take.new.replica c.settle.new.replica c.in_ok-given.ensures.peeks c.settle.ensures.peeks
+returns-clause-peeks g c = peeks_on _ _ _ _ _ _ _ c.args.replica.now c.take.new.replica c.settle.new.replica c.in_ok-given.ensures.peeks c.settle.ensures.peeks
 
 pub returns-in_err-given-clause-cut : goal.returns-in_err-given-clause-cut
 returns-in_err-given-clause-cut g c = λ failed honest.
     let e = err_from_is_err_and c.from_residual.result c.from_residual.ensures.1 in
     let error : c.in_err-given.field-0.0 ≡ call_error.Failed = cc (e.1, e.2, failed) in
     same_cut c.args.base.now (g.R.Replica.durable c.args.replica.now) _ c.args.work.now c.take.new.work c.requires.fresh (c.in_err-given.ensures.same (ap (λ (x : CallError). Err x) error)) (c.in_err-given.ensures.asks (ap (λ (x : CallError). Err x) error))
+
+pub returns-clause-surely : goal.returns-clause-surely
+returns-clause-surely g c = λ failed all. c.settle.ensures.surely failed (c.in_ok-given.ensures.peeks.spared all)
+
+pub returns-in_err-given-clause-surely : goal.returns-in_err-given-clause-surely
+returns-in_err-given-clause-surely g c = λ failed.
+    let e = err_from_is_err_and c.from_residual.result c.from_residual.ensures.1 in
+    let error : c.in_err-given.field-0.0 ≡ call_error.Failed = cc (e.1, e.2, failed) in
+    c.in_err-given.ensures.surely (ap (λ (x : CallError). Err x) error)

@@ -77,3 +77,8 @@ returns-in_err-entry-clause-any_moment g c = λ honest. still_with g.R.Replica.s
 
 pub returns-in_err-opened-clause-any_moment : goal.returns-in_err-opened-clause-any_moment
 returns-in_err-opened-clause-any_moment g c = λ honest. still_with g.R.Replica.stands_for _ (g.R.Replica.durable c.args.replica.now) (g.R.Disk.Store.disk (g.R.Replica.disk c.args.replica.now)) (g.met.R.Replica.is_safe c.args.replica.now honest c.requires.whole)
+
+pub returns-in-Err-clause-surely : goal.returns-in-Err-clause-surely
+returns-in-Err-clause-surely g c = λ l told.
+    let cause = failed_cause c.args.made.started c.args.made.work.entries c.in-Err.error c.refusal.result l c.refusal.ensures (told_one c.refusal.result _ told) in
+    c.commit.ensures.surely (c.in-Err.is ∙ ap (λ (x : RoomError). let r : Result (Option ℕ) RoomError = Err x in r) cause.0)

@@ -100,3 +100,20 @@ returns-in-Err-Failed-clause-any_moment g c = λ honest. look_leaves g.R.Replica
 
 pub returns-in-Err-NoMemory-clause-any_moment : goal.returns-in-Err-NoMemory-clause-any_moment
 returns-in-Err-NoMemory-clause-any_moment g c = λ honest. look_leaves g.R.Replica.stands_for (core_of c.args.memory.now) (g.R.Replica.durable c.args.replica.now) c.args.event (g.R.Disk.Store.disk (g.R.Replica.disk c.args.replica.now)) (g.R.Disk.Store.disk (g.R.Replica.disk c.work_out.new.replica)) (c.work_out.ensures.peeks.looked honest).leaves
+
+pub returns-in-Ok-clause-surely : goal.returns-in-Ok-clause-surely
+returns-in-Ok-clause-surely g c = λ l told all. c.keep_made.ensures.surely l told (c.work_out.ensures.peeks.spared all)
+
+pub returns-in-Ok-clause-spared : goal.returns-in-Ok-clause-spared
+returns-in-Ok-clause-spared g c = λ all. c.keep_made.ensures.spared (c.work_out.ensures.peeks.spared all)
+
+pub returns-in-Err-Failed-clause-surely : goal.returns-in-Err-Failed-clause-surely
+returns-in-Err-Failed-clause-surely g c = λ l told all.
+    let failed : IsErrOf c.work_out.result call_error.Failed = search rules in
+    c.work_out.ensures.surely failed all
+
+pub returns-in-Err-Failed-clause-spared : goal.returns-in-Err-Failed-clause-spared
+returns-in-Err-Failed-clause-spared g c = c.work_out.ensures.peeks.spared
+
+pub returns-in-Err-NoMemory-clause-spared : goal.returns-in-Err-NoMemory-clause-spared
+returns-in-Err-NoMemory-clause-spared g c = c.work_out.ensures.peeks.spared

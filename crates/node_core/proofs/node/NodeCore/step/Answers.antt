@@ -27,3 +27,6 @@ returns-clause-tied g c = λ run. c.advance-result.ensures.tied (on_told c.advan
 
 pub returns-then-not-self-clause-others : goal.returns-then-not-self-clause-others
 returns-then-not-self-clause-others g c = λ none. absurd (none c.nothing.result refl)
+
+pub returns-clause-surely : goal.returns-clause-surely
+returns-clause-surely g c = λ run all. (λ l told. c.advance-result.ensures.surely l told all, c.advance-result.ensures.spared all)
