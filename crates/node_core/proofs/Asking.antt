@@ -12,13 +12,12 @@ use Rattle.statement_plan.specs.declared.plan.Columns.{Columns}
 use Rattle.peer_messages.specs.declared.chronicle.Entry.TheVariants.{Refused}
 use Rattle.peer_messages.specs.declared.chronicle.Invalid.TheVariants as reason
 use Rattle.peer_messages.specs.declared.chronicle.Refusal.{Refusal}
-use Rattle.peer_messages.specs.declared.event.Plan.{Plan}
 use Rattle.peer_messages.specs.declared.event.Plan.TheVariants.{Write, Read}
 use Rattle.durable_state.specs.State.{Durable}
 use Rattle.node_steps.specs.State.{NodeState, OpenWrite, OpenRead}
 use Rattle.node_steps.specs.Effects.{Effects, effects_of}
 use Rattle.node_steps.specs.Fitting.{write_fits, query_fits}
-use Rattle.node_steps.specs.Requests.{refusal_of, refusal_at, BeginsOrRefuses, Begins}
+use Rattle.node_steps.specs.Requests.{refusal_of, refusal_at, BeginsOrRefuses}
 use Rattle.node_steps.specs.Writes.{start_write, started_write}
 use Rattle.node_steps.specs.Reads.{start_read, started_read}
 use Rattle.node_core.specs.declared.base.Base.{Base}

@@ -1,5 +1,5 @@
 -- What a client's request leaves as it was, and what it sends: to the node itself one body at the most.
-use Rattle.std.proofs.Common.{◌≡◌, ◌<◌, ◌≤◌, ◌+◌, inl, inr, ℕ, zero, suc, Bool, true, false, Option, Some, None, List, [], ◌∷◌, refl, sym, ap, subst, ◌∙◌, arith, filter, map}
+use Rattle.std.proofs.Common.{◌≡◌, ◌<◌, ◌≤◌, ◌+◌, inl, inr, ℕ, zero, suc, Bool, true, false, Option, Some, None, List, [], ◌∷◌, refl, sym, ap, subst, ◌∙◌, arith, filter}
 use Rattle.std.specs.Prelude.{◌==◌, not, cond, length, slice_get}
 use Rattle.std.specs.List.{AllByRecursion, range_with_len}
 use Rattle.std.proofs.lemmas.Bool.{eqb-true}
@@ -14,7 +14,6 @@ use Rattle.changes.specs.declared.Query.{Query}
 use Rattle.changes.specs.Drafts.{mutation_of}
 use Rattle.stored_changes.specs.Spelling.{MutationFits}
 use Rattle.statement_plan.specs.declared.plan.Columns.{Columns}
-use Rattle.peer_messages.specs.declared.chronicle.Entry.{Entry}
 use Rattle.peer_messages.specs.declared.chronicle.Invalid.{Invalid as invalid}
 use Rattle.peer_messages.specs.declared.chronicle.Refusal.{Refusal}
 use Rattle.peer_messages.specs.declared.message.Body.{Body}
@@ -23,18 +22,16 @@ use Rattle.peer_messages.specs.declared.outcome.Outbound.{Outbound}
 use Rattle.peer_messages.specs.declared.setting.Setting.{Setting}
 use Rattle.peer_messages.specs.Settings.{alive_at, factor_of}
 use Rattle.durable_state.specs.State.{formatted}
-use Rattle.node_steps.specs.State.{NodeState, OpenWrite, OpenRead, loaded}
-use Rattle.node_steps.specs.Effects.{Effects, effects_of, outbound, send_to}
+use Rattle.node_steps.specs.State.{NodeState, loaded}
+use Rattle.node_steps.specs.Effects.{Effects, outbound, send_to}
 use Rattle.node_steps.specs.Requests.{refusal_at}
-use Rattle.node_steps.specs.Writes.{start_write, started_write}
-use Rattle.node_steps.specs.Reads.{start_read, started_read}
+use Rattle.node_steps.specs.Writes.{started_write}
+use Rattle.node_steps.specs.Reads.{started_read}
 use Rattle.node_core.specs.declared.base.Base.{Base}
-use Rattle.node_core.specs.declared.slot.Slot.{Slot}
-use Rattle.node_core.specs.declared.slot.Slot.TheVariants.{New}
 use Rattle.node_core.specs.declared.work.Given.{Given}
 use Rattle.node_core.specs.declared.work.Work.{Work}
-use Rattle.node_core.specs.Working.{BodyFits, effects_given, own_sent, weight, weight_of}
-use Rattle.node_core.specs.Asking.{AsksWrite, AsksRead, Begins, MayBegin, TellsEntry}
+use Rattle.node_core.specs.Working.{BodyFits, own_sent, weight, weight_of}
+use Rattle.node_core.specs.Asking.{AsksWrite, AsksRead, Begins}
 use Rattle.node_core.specs.Moving.{AreOf}
 
 -- ---- numbers that rise

@@ -11,8 +11,7 @@ use Rattle.peer_messages.specs.declared.outcome.Outbound.{Outbound}
 use Rattle.durable_state.specs.State.{Durable}
 use Rattle.durable_state.specs.Keeping.{Commits}
 use Rattle.node_steps.specs.State.{NodeState}
-use Rattle.node_steps.specs.Effects.{Effects}
-use Rattle.node_steps.specs.Acts.{Act, Does, Deed, Chain, own_sends}
+use Rattle.node_steps.specs.Acts.{Act, Deed, Chain, own_sends}
 use Rattle.node_steps.specs.Acts.Chain.{own, matter}
 use Rattle.node_steps.specs.Steps.{messages_of, sends_of, entries_of}
 use Rattle.node_steps.specs.Keeping.{kept_by, kept_in}
@@ -21,7 +20,7 @@ use Rattle.node_core.specs.declared.base.Base.{Base}
 use Rattle.node_core.specs.declared.work.Given.{Given}
 use Rattle.node_core.specs.declared.work.Work.{Work}
 use Rattle.node_core.specs.Working.{state_at, effects_given, own_act, own_acts, own_sent, IsSent}
-use Rattle.node_core.specs.Moving.{MovesTo, GoesOn, HasMade, HasCome, GoesBy, IsCut}
+use Rattle.node_core.specs.Moving.{MovesTo, GoesOn, HasCome, IsCut}
 use Rattle.node_core.proofs.Sending.{messages_append}
 
 -- what goes to the node itself is what it hears

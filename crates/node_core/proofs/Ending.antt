@@ -1,10 +1,7 @@
 -- What a step leaves, from what it made and how that was kept.
-use Rattle.std.proofs.Common.{◌≡◌, ◌<◌, ◌≤◌, ◌+◌, ◌^◌, ℕ, Bool, Option, List, ◌++◌, Result, Ok, Err, IsErrOf, IfOk, OnOk, OnErr, refl, sym, ap, subst, ◌∙◌, arith}
-use Rattle.row_change.specs.declared.entry.LogItem.{LogItem}
+use Rattle.std.proofs.Common.{◌≡◌, ◌<◌, ◌≤◌, ◌^◌, ℕ, Option, List, Ok, Err, IsErrOf, IfOk, OnOk, OnErr, refl, sym, ap, subst, ◌∙◌, arith}
 use Rattle.peer_messages.specs.declared.chronicle.Entry.{Entry}
 use Rattle.peer_messages.specs.declared.event.Event.{Event}
-use Rattle.peer_messages.specs.declared.event.What.{What}
-use Rattle.peer_messages.specs.declared.outcome.Outputs.{Outputs}
 use Rattle.durable_state.specs.State.{Durable}
 use Rattle.durable_state.specs.Keeping.{Commits}
 use Rattle.node_steps.specs.Steps.{risen_time, end_of_time, started_by}
@@ -15,7 +12,6 @@ use Rattle.node_core.specs.declared.memory.Begun.{Begun}
 use Rattle.node_core.specs.declared.memory.Made.{Made}
 use Rattle.node_core.specs.declared.memory.Memory.{Memory}
 use Rattle.node_core.specs.declared.outcome.Lost.{Lost}
-use Rattle.node_core.specs.declared.outcome.StepError.{StepError}
 use Rattle.node_core.specs.declared.outcome.StepError.TheVariants.{Failed}
 use Rattle.node_core.specs.declared.work.Work.{Work}
 use Rattle.node_core.specs.Memory.{AreOutputsOf, HoldsCore, IsBegun, IsLost, core_behind, core_of, entry_made}

@@ -1,5 +1,5 @@
 -- Calls that keep what a replica kept, one after another.
-use Rattle.std.proofs.Common.{◌≡◌, ◌≤◌, ℕ, List, refl, sym, subst, ◌∙◌, arith}
+use Rattle.std.proofs.Common.{ℕ, List, refl, subst, ◌∙◌, arith}
 use Rattle.cs_store.specs.Disk.{Disk}
 use Rattle.durable_state.specs.State.{Durable, IsSameKept}
 use Rattle.replica.specs.Calls.{Looked}

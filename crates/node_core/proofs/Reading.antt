@@ -8,7 +8,6 @@ use Rattle.changes.specs.Totals.{partition_total}
 use Rattle.changes.proofs.Partitions.{partition_exact}
 use Rattle.durable_state.specs.Partitions.{is_partition}
 use Rattle.std.specs.List.{AllByRecursion}
-use Rattle.changes.specs.declared.Change.{Change}
 use Rattle.changes.specs.declared.Held.{Held}
 use Rattle.changes.specs.declared.Mutation.{Mutation}
 use Rattle.changes.specs.declared.Partition.{Partition}
@@ -23,10 +22,9 @@ use Rattle.change_laws.proofs.Slices.{meets_above}
 use Rattle.row_change.specs.declared.entry.LogItem.{LogItem}
 use Rattle.row_change.specs.declared.entry.LogItem.TheVariants.{Data, Paxos, HintAdd, HintGone, Ceiling, Mark, Purge}
 use Rattle.durable_state.specs.State.{Durable, Holds, changes_of}
-use Rattle.durable_state.specs.Taking.{TakesIn}
-use Rattle.durable_state.specs.Keeping.{Commits, TakesItem}
+use Rattle.durable_state.specs.Keeping.{TakesItem}
 use Rattle.durable_state.proofs.Entries.{commits_parts}
-use Rattle.node_steps.specs.Replicas.{IsAnswerTo, IsReplyTo}
+use Rattle.node_steps.specs.Replicas.{IsAnswerTo}
 use Rattle.node_core.specs.Working.{IsDataAt}
 use Rattle.node_core.specs.Moving.{IsBehind, IsBehindItem, AreBehind}
 

@@ -1,9 +1,8 @@
 -- What a node tells where its replica refuses an entry, by the cause.
-use Rattle.std.proofs.Common.{◌≡◌, ℕ, Option, Result, Ok, Err, IsErrOf, List, refl, sym, ap, subst, ◌∙◌}
+use Rattle.std.proofs.Common.{◌≡◌, ℕ, Option, Result, Err, IsErrOf, List, refl, sym, ap, subst, ◌∙◌}
 use Rattle.cs_base.specs.declared.ids.ReqId.{ReqId}
 use Rattle.changes.specs.declared.Partition.{Partition}
 use Rattle.peer_messages.specs.declared.chronicle.Entry.{Entry}
-use Rattle.peer_messages.specs.declared.outcome.Outputs.{Outputs}
 use Rattle.replica.specs.declared.error.CallError.{CallError}
 use Rattle.replica.specs.declared.error.CallError.TheVariants as call_error
 use Rattle.replica.specs.declared.error.RoomError.{RoomError}

@@ -1,12 +1,10 @@
 -- A node with what it has in memory, by whether it runs.
-use Rattle.std.proofs.Common.{◌≡◌, ◌≤◌, ℕ, Bool, true, false, Result, Ok, Err, IsErrOf, IfOk, OnOk, OnErr, refl, sym, ap, subst, ◌∙◌}
+use Rattle.std.proofs.Common.{◌≡◌, Bool, true, false, Ok, Err, IsErrOf, IfOk, OnErr, sym, ap, subst, ◌∙◌}
 use Rattle.std.specs.Prelude.{not}
 use Rattle.peer_messages.specs.declared.event.Event.{Event}
-use Rattle.peer_messages.specs.declared.outcome.Outputs.{Outputs}
 use Rattle.durable_state.specs.State.{Durable}
 use Rattle.node_core.specs.declared.memory.Memory.{Memory}
 use Rattle.node_core.specs.declared.outcome.Lost.{Lost}
-use Rattle.node_core.specs.declared.outcome.StepError.{StepError}
 use Rattle.node_core.specs.declared.outcome.StepError.TheVariants.{Failed}
 use Rattle.node_core.specs.Memory.{core_of, has_stopped}
 use Rattle.node_core.specs.Nodes.{Core, Steps}

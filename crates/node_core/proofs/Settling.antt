@@ -1,5 +1,5 @@
 -- All that a node hears of its own, one after another.
-use Rattle.std.proofs.Common.{◌≡◌, ◌<◌, ◌≤◌, ◌+◌, ℕ, Bool, true, false, Option, Some, None, List, [], ◌∷◌, ◌++◌, length, drop, refl, sym, ap, subst, ◌∙◌, arith, filter, append-nil}
+use Rattle.std.proofs.Common.{◌≡◌, ◌<◌, ◌≤◌, ◌+◌, ℕ, Bool, true, false, Option, Some, List, [], ◌∷◌, ◌++◌, length, drop, refl, sym, ap, subst, ◌∙◌, arith}
 use Rattle.std.specs.Prelude.{◌==◌, if◌then◌else◌, cond}
 use Rattle.std.specs.Option.{option_to_list}
 use Rattle.std.specs.List.{AllByRecursion}
@@ -9,7 +9,6 @@ use Rattle.cs_base.specs.declared.ids.ReqId.{ReqId}
 use Rattle.row_change.specs.declared.entry.LogItem.{LogItem}
 use Rattle.peer_messages.specs.declared.message.Body.{Body}
 use Rattle.peer_messages.specs.declared.message.Body.TheVariants.{Write, WriteAck, Read, ReadReply}
-use Rattle.peer_messages.specs.declared.message.Message.{Message}
 use Rattle.peer_messages.specs.declared.outcome.Outbound.{Outbound}
 use Rattle.peer_messages.specs.declared.setting.Setting.{Setting}
 use Rattle.durable_state.specs.State.{Durable}
@@ -19,7 +18,7 @@ use Rattle.node_steps.specs.Keeping.{data_of, kept_by}
 use Rattle.node_core.specs.declared.base.Base.{Base}
 use Rattle.node_core.specs.declared.work.Given.{Given}
 use Rattle.node_core.specs.declared.work.Work.{Work}
-use Rattle.node_core.specs.Working.{IsOwn, IsSent, IsSound, BodyFits, own_act, own_sent, weight, weight_of}
+use Rattle.node_core.specs.Working.{IsOwn, IsSent, IsSound, BodyFits, own_act, own_sent, weight}
 use Rattle.node_core.specs.Moving.{AreOf, GoesBy, GoesAlong, HasCome, IsCut, IsHeard, IsSettled, MovesTo}
 use Rattle.node_core.proofs.Coming.{own_more, cut_more}
 

@@ -3,7 +3,7 @@ use Rattle.std.proofs.Common.{◌≡◌, Bool, true, false, cond, Option, Some, 
 use Rattle.std.specs.Map.{lookup, set_value, remove_entry, keys_of}
 use Rattle.std.specs.BTreeMap.{BTreeMap, is_at, insert_entry, IsOrdered}
 use Rattle.std.specs.Cmp.{IsTotalOrder}
-use Rattle.std.specs.Ordering.{is_eq, match_ordering, eq_by_cmp}
+use Rattle.std.specs.Ordering.{is_eq, match_ordering}
 use Rattle.std.specs.declared.cmp.Ordering.{Ordering}
 use Rattle.std.specs.declared.cmp.Ordering.TheVariants.{Less, Equal, Greater}
 use Rattle.std.proofs.lemmas.Cmp.{nat_cmp_total, on_total, then_total, tied_itself, eq_by_cmp_equiv}
@@ -13,13 +13,13 @@ use Rattle.cs_base.specs.declared.ids.ReqId.{ReqId}
 use Rattle.cs_base.specs.Requests.{request_cmp}
 use Rattle.peer_messages.specs.declared.outcome.Move.{Move}
 use Rattle.peer_messages.specs.Moves.{quiet}
-use Rattle.node_steps.specs.Effects.{open_at, after_move, effects_of, Takes, AtRequest}
+use Rattle.node_steps.specs.Effects.{open_at, after_move, Takes, AtRequest}
 use Rattle.node_core.specs.declared.slot.Found.{Found}
 use Rattle.node_core.specs.declared.slot.Slot.{Slot}
 use Rattle.node_core.specs.declared.slot.Slot.TheVariants.{Untouched, New, Old, Gone}
 use Rattle.node_core.specs.declared.work.Given.{Given}
 use Rattle.node_core.specs.Slots.{IsFound, IsNew, slot_after}
-use Rattle.node_core.specs.Working.{with_slot, IsSlotOf, effects_given}
+use Rattle.node_core.specs.Working.{with_slot, IsSlotOf}
 use Rattle.node_core.specs.Hearing.{Opens, Moves}
 
 pub some_not_none : {X : Type 0} (x : X) → Some x ≡ None → ⊥

@@ -1,7 +1,6 @@
 -- From what a step made in memory to the step of the plain node.
-use Rattle.std.proofs.Common.{◌≡◌, ◌<◌, ◌≤◌, ◌+◌, inl, inr, ℕ, Bool, true, false, Option, Some, None, List, [], ◌∷◌, ◌++◌, Contains, refl, sym, ap, subst, ◌∙◌, arith, filter, max}
-use Rattle.std.specs.Prelude.{◌==◌, flat_map, MatchBool}
-use Rattle.std.specs.List.{AllByRecursion}
+use Rattle.std.proofs.Common.{◌≡◌, ◌<◌, ◌+◌, inl, inr, ℕ, Bool, Option, Some, None, List, [], ◌∷◌, ◌++◌, refl, sym, ap, subst, ◌∙◌, arith, filter, max}
+use Rattle.std.specs.Prelude.{flat_map}
 use Rattle.std.proofs.Math.Nat.{le-max_left}
 use Rattle.std.proofs.lemmas.List.Elements.{filter-append}
 use Rattle.cs_base.specs.declared.ids.ReqId.{ReqId}
@@ -16,19 +15,17 @@ use Rattle.peer_messages.specs.declared.message.Message.{Message}
 use Rattle.peer_messages.specs.declared.outcome.Outputs.{Outputs}
 use Rattle.durable_state.specs.State.{Durable, IsSameKept}
 use Rattle.durable_state.specs.Keeping.{Commits, IsWithOrWithout}
-use Rattle.node_steps.specs.State.{NodeState, OpenWrite, OpenRead, durable_of}
+use Rattle.node_steps.specs.State.{NodeState, OpenWrite, OpenRead}
 use Rattle.node_steps.specs.Effects.{nothing}
 use Rattle.node_steps.specs.Acts.{Act, Rises, Deed, Chain, ceiling_after}
 use Rattle.node_steps.specs.Acts.Chain.{begun, matter}
 use Rattle.node_steps.specs.Steps.{NodeStep, TellsTables, risen_time, message_time, looked_at, reading, matter_of, started_by, is_refused, messages_of, sends_of, entries_of}
 use Rattle.node_steps.specs.Keeping.{ceiling_in, entry_of, kept_in}
-use Rattle.node_steps.specs.Stops.{CutStep, Leads, MayBeLeft, asked_by, is_entered_at_stop, remains, remains_in, remains_of}
+use Rattle.node_steps.specs.Stops.{CutStep, Leads, MayBeLeft, asked_by, is_entered_at_stop, remains, remains_in}
 use Rattle.node_steps.proofs.Failing.{failed_stops}
-use Rattle.replica.specs.Calls.{Looked}
 use Rattle.replica.specs.Finding.{AlwaysLeaves, IsSafe, StandFor}
 use Rattle.replica.specs.Kept.{IsKeptOf}
 use Rattle.replica.proofs.Fronts.{leaves_more, leaves_on, leaves_still, stand_more}
-use Rattle.node_core.specs.declared.base.Base.{Base}
 use Rattle.node_core.specs.declared.memory.Begun.{Begun}
 use Rattle.node_core.specs.declared.memory.Made.{Made}
 use Rattle.node_core.specs.declared.memory.Memory.{Memory}
@@ -40,7 +37,7 @@ use Rattle.node_core.specs.Asking.{IsFresh}
 use Rattle.node_core.specs.Memory.{AreOutputsOf, IsBegun, IsLost, TellsBy, core_behind, core_of, entry_made, is_flush, outputs_with}
 use Rattle.node_core.specs.Moving.{CutsIn, HasCome, IsCut, IsWorkedOut}
 use Rattle.node_core.specs.Nodes.{Core, Halts, HasNoRoom, IsBeforeOrBehind, IsTooLarge, LeadsBy, OverflowsLog, Steps, WouldKeep, state_with}
-use Rattle.node_core.specs.Working.{IsDataAt, IsSound, down_with, state_at, with_slot}
+use Rattle.node_core.specs.Working.{IsSound, down_with, state_at, with_slot}
 use Rattle.node_core.proofs.Entry.{splits}
 use Rattle.replica.specs.Lengths.{IsFirstTooLarge}
 

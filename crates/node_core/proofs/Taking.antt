@@ -1,6 +1,6 @@
 -- The event's own matter, and all that comes of it.
-use Rattle.std.proofs.Common.{◌≡◌, ◌<◌, ◌≤◌, ◌+◌, inl, inr, ℕ, Bool, true, false, Option, Some, None, List, [], ◌∷◌, ◌++◌, Contains, length, refl, sym, ap, subst, ◌∙◌, arith, filter, append-nil}
-use Rattle.std.specs.Prelude.{if◌then◌else◌, cond, flat_map}
+use Rattle.std.proofs.Common.{◌≡◌, ◌<◌, ◌≤◌, ◌+◌, inl, inr, ℕ, Bool, true, false, Option, Some, None, List, [], ◌∷◌, ◌++◌, length, refl, sym, ap, subst, ◌∙◌, arith, filter, append-nil}
+use Rattle.std.specs.Prelude.{if◌then◌else◌, cond}
 use Rattle.std.specs.List.{AllByRecursion}
 use Rattle.std.specs.BTreeMap.{is_at}
 use Rattle.std.specs.Cmp.{nat_cmp_is}
@@ -16,32 +16,30 @@ use Rattle.peer_messages.specs.declared.chronicle.Entry.{Entry}
 use Rattle.peer_messages.specs.declared.event.Ask.{Ask}
 use Rattle.peer_messages.specs.declared.event.What.{What}
 use Rattle.peer_messages.specs.declared.event.What.TheVariants.{Client, Deliver, Alive, Flush, Tick}
-use Rattle.peer_messages.specs.declared.message.Body.{Body}
-use Rattle.peer_messages.specs.declared.message.Body.TheVariants.{Write, WriteAck, Read, ReadReply}
 use Rattle.peer_messages.specs.declared.message.Message.{Message}
 use Rattle.peer_messages.specs.declared.outcome.Outbound.{Outbound}
 use Rattle.peer_messages.specs.declared.setting.Setting.{Setting}
 use Rattle.peer_messages.specs.Settings.{marked}
 use Rattle.durable_state.specs.State.{Durable}
 use Rattle.durable_state.specs.Keeping.{Commits}
-use Rattle.node_steps.specs.State.{NodeState, OpenWrite, OpenRead}
+use Rattle.node_steps.specs.State.{NodeState}
 use Rattle.node_steps.specs.Effects.{Effects, nothing, open_at}
 use Rattle.node_steps.specs.Fitting.{message_fits, mark_fits}
 use Rattle.node_steps.specs.Requests.{refusal_of, BeginsOrRefuses}
-use Rattle.node_steps.specs.Acts.{Act, Rises, Hears, Asks, Marks, Does, Chain, request_at}
-use Rattle.node_steps.specs.Steps.{heard_matter, matter_of, messages_of, entries_of}
+use Rattle.node_steps.specs.Acts.{Act, Rises, Hears, Asks, Marks, Does, request_at}
+use Rattle.node_steps.specs.Steps.{heard_matter, matter_of, messages_of}
 use Rattle.node_steps.specs.Keeping.{kept_by}
 use Rattle.node_steps.specs.Stops.{is_entered_at_stop}
 use Rattle.node_core.specs.declared.base.Base.{Base}
 use Rattle.node_core.specs.declared.slot.Slot.{Slot}
-use Rattle.node_core.specs.declared.slot.Slot.TheVariants.{Untouched, New, Old, Gone}
+use Rattle.node_core.specs.declared.slot.Slot.TheVariants.{Untouched}
 use Rattle.node_core.specs.declared.work.Given.{Given}
 use Rattle.node_core.specs.declared.work.Heard.{Heard}
 use Rattle.node_core.specs.declared.work.Work.{Work}
 use Rattle.node_core.specs.Slots.{IsNew}
 use Rattle.node_core.specs.Asking.{AsksAs, Begins, IsFresh, MayBegin}
-use Rattle.node_core.specs.Working.{IsDataAt, IsOwn, IsSent, IsSlotOf, IsSound, down_with, effects_given, heard_act, own_acts, own_sent, state_at, weight, weight_of}
-use Rattle.node_core.specs.Moving.{AreOf, AskNothing, BeganBefore, CutsIn, CutsOn, EntersQuietly, GoesAlong, GoesOn, HasCome, IsAbout, IsCut, IsHeard, IsNewTo, IsSettled, IsWorkedOut, MovesTo, TakesMatter, TakesMatters, MarksAs}
+use Rattle.node_core.specs.Working.{IsDataAt, IsOwn, IsSent, IsSlotOf, IsSound, down_with, effects_given, heard_act, own_acts, own_sent, state_at, weight}
+use Rattle.node_core.specs.Moving.{AreOf, AskNothing, BeganBefore, CutsIn, CutsOn, EntersQuietly, GoesOn, HasCome, IsAbout, IsCut, IsHeard, IsNewTo, IsSettled, IsWorkedOut, MovesTo, TakesMatter, TakesMatters, MarksAs}
 use Rattle.node_core.proofs.Beginning.{body_light}
 use Rattle.node_core.proofs.Coming.{cut_more, matter_more}
 use Rattle.node_core.proofs.Settling.{kept_few, requeued_come, sent_sound, weight_own}

@@ -1,4 +1,3 @@
-use Rattle.std.proofs.lemmas.Result.{IfOk-weaker}
 use Rattle.node_core.proofs.hearing.answer.Goals as goal
 
 pub returns-clause-ok : goal.returns-clause-ok

@@ -1,4 +1,4 @@
-use Rattle.std.proofs.Common.{List, Contains, subst, sym, ◌∙◌}
+use Rattle.std.proofs.Common.{List, Contains, subst, ◌∙◌}
 use Rattle.std.proofs.lemmas.Result.{IfOk-weaker}
 use Rattle.changes.specs.declared.Held.{Held}
 use Rattle.changes.specs.Contents.{IsContent}

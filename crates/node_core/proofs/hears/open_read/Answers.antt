@@ -1,6 +1,6 @@
-use Rattle.std.proofs.Common.{◌≡◌, Option, None, Some, subst}
+use Rattle.std.proofs.Common.{Option, Some, subst}
 use Rattle.node_core.specs.declared.slot.Found.{Found}
-use Rattle.node_steps.specs.State.{OpenWrite, OpenRead}
+use Rattle.node_steps.specs.State.{OpenRead}
 use Rattle.node_core.specs.Slots.{IsFound}
 use Rattle.node_core.proofs.Slots.{taken_opens, taken_gone}
 use Rattle.node_core.proofs.hears.open_read.Goals as goal

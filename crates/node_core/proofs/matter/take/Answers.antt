@@ -1,5 +1,5 @@
 use Rattle.std.proofs.lemmas.Result.{IfOk-weaker}
-use Rattle.node_core.proofs.Taking.{alive_takes, client_takes, flush_takes, message_takes, tick_takes, what_asks, what_request}
+use Rattle.node_core.proofs.Taking.{alive_takes, client_takes, message_takes, what_asks, what_request}
 use Rattle.node_core.proofs.matter.take.Goals as goal
 
 pub returns-in_ok-ask-in-Client-clause-ok : goal.returns-in_ok-ask-in-Client-clause-ok

@@ -1,7 +1,6 @@
-use Rattle.std.proofs.Common.{rules, ◌≡◌, ◌≤◌, ℕ, List, Result, Ok, Err, IfOk, OnOk, OnErr, IsErrOf, refl, sym, ap, subst, ◌∙◌, arith}
-use Rattle.row_change.specs.declared.entry.LogItem.{LogItem}
+use Rattle.std.proofs.Common.{rules, ℕ, Ok, Err, IsErrOf, refl, sym, subst, arith}
 use Rattle.durable_state.specs.State.{Durable}
-use Rattle.durable_state.specs.Keeping.{Commits, IsWithOrWithout}
+use Rattle.durable_state.specs.Keeping.{IsWithOrWithout}
 use Rattle.replica.specs.Finding.{AlwaysLeaves}
 use Rattle.replica.specs.Kept.{IsKeptOf}
 use Rattle.replica.specs.Lengths.{IsFirstTooLarge}
@@ -10,7 +9,6 @@ use Rattle.node_core.specs.Memory.{core_of, entry_made}
 use Rattle.node_core.specs.Nodes.{OverflowsLog}
 use Rattle.node_core.proofs.Answered.{ok_here, risen_later}
 use Rattle.node_core.proofs.Ending.{begun_about, begun_later, begun_new, begun_started, begun_within, held_kept, same_kept, lost_as, steps_kept, tied_kept}
-use Rattle.node_core.proofs.Requests.{held_back}
 use Rattle.node_core.proofs.Stepping.{commit_halts, cut_at, look_halts, look_leaves, no_room, ready, step_leaves, too_large}
 use Rattle.node_core.proofs.memory.step_at.Goals as goal
 

@@ -1,4 +1,4 @@
-use Rattle.std.proofs.Common.{◌≡◌, sym, ap, ◌∙◌}
+use Rattle.std.proofs.Common.{sym, ap, ◌∙◌}
 use Rattle.std.specs.BTreeMap.{BTreeMap, is_at}
 use Rattle.cs_base.specs.Requests.{request_cmp}
 use Rattle.node_core.proofs.Requests.{set_absent}

@@ -1,4 +1,4 @@
-use Rattle.std.proofs.Common.{◌≡◌, List, ap, ◌∙◌}
+use Rattle.std.proofs.Common.{List, ap, ◌∙◌}
 use Rattle.cs_base.specs.declared.ids.ReqId.{ReqId}
 use Rattle.node_steps.specs.State.{OpenWrite}
 use Rattle.node_core.specs.Opening.{without_begun}

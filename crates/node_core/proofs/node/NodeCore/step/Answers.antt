@@ -1,5 +1,4 @@
-use Rattle.std.proofs.Common.{◌≡◌, true, false, refl, sym, ap, subst, ◌∙◌}
-use Rattle.node_core.specs.Nodes.{Core}
+use Rattle.std.proofs.Common.{false, refl}
 use Rattle.node_core.proofs.Running.{failed_told, on_told, others_told, running, same_told, steps_told}
 use Rattle.node_core.proofs.node.NodeCore.step.Goals as goal
 
