@@ -18,7 +18,7 @@ use Rattle.node_steps.specs.Keeping.{entry_of}
 use Rattle.node_steps.specs.Stops.{remains_in, CutStep, MayBeLeft}
 use Rattle.replica.specs.declared.kept.Kept.{Kept}
 use Rattle.replica.specs.Finding.{StandFor}
-use Rattle.replica.specs.Lengths.{PassesLog, IsFirstTooLarge, NoneGrowsTooLarge}
+use Rattle.replica.specs.Lengths.{PassesLog, IsFirstTooLarge, AllStaySmall}
 
 -- what a node has in memory, and whether it runs
 pub record Core : Type 0 where
@@ -73,7 +73,7 @@ has_items items = record { items = items }
 
 -- the log would pass its length by the entry, while no partition of it grows too large
 abbrev pub OverflowsLog : ℕ → Durable → List LogItem → Type 0
-OverflowsLog log_end d items = PassesLog log_end (has_items items) × NoneGrowsTooLarge items items d
+OverflowsLog log_end d items = PassesLog log_end (has_items items) × AllStaySmall items items d
 
 -- the node's time would pass its end, or its log its length
 abbrev pub HasNoRoom : Core → Durable → ℕ → Event → Type 0

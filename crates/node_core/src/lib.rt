@@ -2,13 +2,8 @@
 //! that is made of; in memory it has its time, what it takes for dead, and the open requests of clients.
 #![tactic(auto)]
 
-mod asks;
-mod base;
-mod fits;
-mod hearing;
-mod hears;
-mod keep;
-mod slot;
-mod times;
-mod work;
+mod node;
+mod outcome;
 
+pub use node::{Node, NodeCore};
+pub use outcome::{Lost, StepError};
