@@ -1,6 +1,6 @@
 -- What comes of an event at a node leads a run on.
 use Rattle.std.proofs.Common.{◌≡◌, ℕ, zero, suc, ◌+◌, arith, Bool, true, false, inl, inr, ◌&&◌, not, Option, Some, None, List, [], ◌∷◌, ◌++◌, refl, sym, ap, subst, ◌∙◌, length, reverse}
-use Rattle.std.specs.Prelude.{map, slice_get, slice_set}
+use Rattle.std.specs.Prelude.{map, slice_get, slice_set, Result, Ok, Err, IfOk, OnErr}
 use Rattle.std.specs.List.{range_with_len}
 use Rattle.std.proofs.lemmas.List.{map-set}
 use Rattle.cs_store.specs.declared.mem.MemStore.{MemStore}
@@ -46,7 +46,7 @@ use Rattle.cluster_model.proofs.Fits.{fit_at, fit_put, beside_running, beside_re
 
 -- ---- numbers
 
-range_end : (a n : ℕ) → range_with_len a (suc n) ≡ range_with_len a n ++ a + n ∷ []
+range_end : (a n : ℕ) → range_with_len a (suc n) ≡ range_with_len a n ++ (a + n) ∷ []
 range_end a zero = ap (λ (x : ℕ). x ∷ []) (let e : a ≡ a + 0 = omega arith in e)
 range_end a (suc n) =
     ap (λ (xs : List ℕ). a ∷ xs) (range_end (a + 1) n ∙ ap (λ (x : ℕ). range_with_len (a + 1) n ++ x ∷ []) (let e : a + 1 + n ≡ a + suc n = omega arith in e))
@@ -64,6 +64,15 @@ pub at_seat : {R : Type 0} (Becomes : Seat R → Seat R → Type 0) (Otherwise :
 at_seat {R} Becomes Otherwise seats k j seat seat' number at becomes =
     subst (λ (o : Option (Seat R)). AtSeat Becomes Otherwise seats k o (slice_set seats j seat')) (sym (ap (λ (n : ℕ). slice_get seats n) (sym number) ∙ at))
     (seat', becomes, ap (λ (n : ℕ). slice_set seats n seat') number)
+
+pub err_at_seat : {R T E : Type 0} (r : Result T E) (Becomes : Seat R → Seat R → Type 0) (Otherwise : Type 0) (seats : List (Seat R)) (k j : ℕ) (seat seat' : Seat R) → j ≡ k → slice_get seats j ≡ Some seat → OnErr r (Becomes seat seat')
+    → OnErr r (AtSeat Becomes Otherwise seats k (slice_get seats k) (slice_set seats j seat'))
+err_at_seat (Ok x) Becomes Otherwise seats k j seat seat' number at becomes = tt
+err_at_seat (Err e) Becomes Otherwise seats k j seat seat' number at becomes = at_seat Becomes Otherwise seats k j seat seat' number at becomes
+
+pub if_ok : {X E : Type 0} (r : Result X E) (P Q : X → Type 0) → IfOk r P → ((x : X) → P x → Q x) → IfOk r Q
+if_ok (Ok x) P Q h to = to x h
+if_ok (Err e) P Q h to = tt
 
 pub get_site : {R : Type 0} (m : Keeper R) (seats : List (Seat R)) (k : ℕ) (seat : Seat R) → slice_get seats k ≡ Some seat → slice_get (map (site_of m) seats) k ≡ Some (site_of m seat)
 get_site m [] k seat h = cc
