@@ -50,7 +50,7 @@ reload : (c : Setting) (xs ys : List Standing) (s : NodeState) → (d : Durable)
     → RunFrom c (start c) (plain (xs ++ Running fresh_node ∷ ys)) → RunFrom c (start c) (plain (xs ++ Running s ∷ ys))
 reload c xs ys s d same is run =
     let down = stopped (plain (xs ++ Running fresh_node ∷ ys)) (plain (xs ++ Down fresh_node None ∷ ys)) (length xs) run
-        (record { before = fresh_node; at = at_end xs ys (Running fresh_node); world = ap plain (sym (set_at_end xs ys (Running fresh_node) (Down fresh_node None))) }) in
+    (record { before = fresh_node; at = at_end xs ys (Running fresh_node); world = ap plain (sym (set_at_end xs ys (Running fresh_node) (Down fresh_node None))) }) in
     load (plain (xs ++ Down fresh_node None ∷ ys)) (plain (xs ++ Running s ∷ ys)) (length xs) down (record {
       before = fresh_node;
       made = None;
@@ -72,7 +72,7 @@ reload_all c xs (suc n) (s ∷ rest) long each run =
     let one = each 0 s refl in
     let next = reload c xs (replicate n (Running fresh_node)) s one.0 one.1 one.2 run in
     let behind = reload_all c (xs ++ Running s ∷ []) n rest (one_less (length rest) n long) (λ k t at. each (suc k) t at)
-        (subst (λ (zs : List Standing). RunFrom c (start c) (plain zs)) (sym (append_assoc xs (Running s ∷ []) (replicate n (Running fresh_node)))) next) in
+    (subst (λ (zs : List Standing). RunFrom c (start c) (plain zs)) (sym (append_assoc xs (Running s ∷ []) (replicate n (Running fresh_node)))) next) in
     subst (λ (zs : List Standing). RunFrom c (start c) (plain zs)) (append_assoc xs (Running s ∷ []) (map Running rest)) behind
 
 fresh_run : (c : Setting) (first : List NodeState) → AreFresh c first → Run c (begin_of first)

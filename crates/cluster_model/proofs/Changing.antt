@@ -274,9 +274,11 @@ wake_up m laws c first seats post chronicle k seat seat' store n run at part is 
     let same = same_on (left_by off.0 off.1) off.3.stands.kept found off.3.stands.one (laws.one (disk_of store).seen off.3.stands.kept found off.3.stands.stands h.found) in
     let w' : World = record w { standing = slice_set w.standing k (Running (loaded found)); past = reverse (deeds_in off.1) ++ w.past } in
     record {
-      restarts = at_node m _ _ seats k seat Off refl at (ap (showing_of m) part) (inl (found,
-          same_looks c first post _ _ chronicle chronicle
-          (put_site m seats k seat' _ (seat_site m (Runs n) seat.clock seat.told.items seat' is ∙ ap (λ (s : NodeState). let site : Site = record { node = Up s; clock = seat.clock; told = seat.told.items } in site) h.state)) refl));
+      restarts = at_node m _ _ seats k seat Off refl at (ap (showing_of m) part) (inl (
+        found,
+        same_looks c first post _ _ chronicle chronicle
+            (put_site m seats k seat' _ (seat_site m (Runs n) seat.clock seat.told.items seat' is ∙ ap (λ (s : NodeState). let site : Site = record { node = Up s; clock = seat.clock; told = seat.told.items } in site) h.state)) refl,
+      ));
       run = record {
         world = w';
         run = load w w' k run.run (record { before = off.0; made = off.1; found = found; at = here; same = same; world = refl });
@@ -297,8 +299,11 @@ wake_fails m c first seats post chronicle k seat seat' store store' run at part 
     let w' : World = record on.world { chronicle = HasStopped k ∷ on.world.chronicle } in
     let fault = some_told seat.told.items some in
     record {
-      restarts = at_node m _ _ seats k seat Off refl at (ap (showing_of m) part) (inr (fault.0, fault.1,
-          same_looks c first post _ _ _ _ (put_site m seats k seat' _ (seat_site m (Rests store') seat.clock [] seat' is)) refl));
+      restarts = at_node m _ _ seats k seat Off refl at (ap (showing_of m) part) (inr (
+        fault.0,
+        fault.1,
+        same_looks c first post _ _ _ _ (put_site m seats k seat' _ (seat_site m (Rests store') seat.clock [] seat' is)) refl,
+      ));
       run = record {
         world = w';
         run = load_failed on.world w' k on.run (record { before = off.0; made = off.1; at = here; world = refl });

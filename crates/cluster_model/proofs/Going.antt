@@ -171,8 +171,8 @@ stepped_goes m c first seats post chronicle k what seat seat' n n' o alive run a
     let after : NodeState = state_with n'.core (m.durable n'.replica) in
     let here : slice_get w.standing k ≡ Some (Running before) = there.1 ∙ ap Some (up.1 ∙ ap Running (sym up.2.is)) in
     let step : NodeStep c k before (event_at seat.clock what) h.steps.deeds o after =
-        subst (λ (j : ℕ). NodeStep c j before (event_at seat.clock what) h.steps.deeds o after) up.2.me
-        (subst (λ (d : Setting). NodeStep d n.core.me before (event_at seat.clock what) h.steps.deeds o after) up.2.setting h.steps.step) in
+    subst (λ (j : ℕ). NodeStep c j before (event_at seat.clock what) h.steps.deeds o after) up.2.me
+    (subst (λ (d : Setting). NodeStep d n.core.me before (event_at seat.clock what) h.steps.deeds o after) up.2.setting h.steps.step) in
     let entries : reverse (entered_by c k o after) ≡ reverse (turn_entries k (asks what) (Stepped o alive)) = ap reverse (entered_step c k (asks what) o alive _ h.up) in
     record {
       comes = at_site m _ _ seats k seat what (Up before) refl at (ap (showing_of m) part) (inl (record {
@@ -259,14 +259,14 @@ stopped_goes m c first seats post chronicle k what seat seat' n l failed store r
     let before : NodeState = state_with n.core (m.durable n.replica) in
     let here : slice_get w.standing k ≡ Some (Running before) = there.1 ∙ ap Some (up.1 ∙ ap Running (sym up.2.is)) in
     let cut : CutStep c k before (event_at seat.clock what) h.deeds =
-        subst (λ (j : ℕ). CutStep c j before (event_at seat.clock what) h.deeds) up.2.me
-        (subst (λ (d : Setting). CutStep d n.core.me before (event_at seat.clock what) h.deeds) up.2.setting h.cut) in
+    subst (λ (j : ℕ). CutStep c j before (event_at seat.clock what) h.deeds) up.2.me
+    (subst (λ (d : Setting). CutStep d n.core.me before (event_at seat.clock what) h.deeds) up.2.setting h.cut) in
     let left : List Entry = remains_in k before (event_at seat.clock what) h.deeds in
     let same : remains l.started l.entries ≡ left = h.entries ∙ ap (λ (j : ℕ). remains_in j before (event_at seat.clock what) h.deeds) up.2.me in
     let stands : StandFor m.stands_for (MayBeLeft c k before (event_at seat.clock what) left) (disk_of store).seen =
-        subst (λ (es : List Entry). StandFor m.stands_for (MayBeLeft c k before (event_at seat.clock what) es) (disk_of store).seen) same
-        (subst (λ (j : ℕ). StandFor m.stands_for (MayBeLeft c j before (event_at seat.clock what) (remains l.started l.entries)) (disk_of store).seen) up.2.me
-        (subst (λ (d : Setting). StandFor m.stands_for (MayBeLeft d n.core.me before (event_at seat.clock what) (remains l.started l.entries)) (disk_of store).seen) up.2.setting h.stands)) in
+    subst (λ (es : List Entry). StandFor m.stands_for (MayBeLeft c k before (event_at seat.clock what) es) (disk_of store).seen) same
+    (subst (λ (j : ℕ). StandFor m.stands_for (MayBeLeft c j before (event_at seat.clock what) (remains l.started l.entries)) (disk_of store).seen) up.2.me
+    (subst (λ (d : Setting). StandFor m.stands_for (MayBeLeft d n.core.me before (event_at seat.clock what) (remains l.started l.entries)) (disk_of store).seen) up.2.setting h.stands)) in
     let made = left_as m c k before what seat.clock left store stands stands.one in
     let entries : reverse (entered_at_stop k left failed) ≡ reverse (turn_entries k (asks what) (Stopped l failed)) = ap (λ (es : List Entry). reverse (entered_at_stop k es failed)) (sym same) in
     let w' : World = record w { standing = slice_set w.standing k (Down before made.made); chronicle = reverse (entered_at_stop k left failed) ++ w.chronicle } in
@@ -323,24 +323,30 @@ refused_for m n what clock refusal s (inr large) = inr large.0
 
 refused_comes : {R : Type 0} (m : Keeper R) (c : Setting) (v v' : ClusterState) (k : ℕ) (what : What) (site : Site) (n : Node R MemStore) (refusal : Refusal) → v.setting ≡ c → n.core.setting ≡ c → n.core.me ≡ k → Refuses m n (event_at site.clock what) refusal
     → v' ≡ turned_away v k what refusal → ComesBy v k site (Up (state_with n.core (m.durable n.replica))) what v'
-refused_comes m c v v' k what site n refusal is setting me (inl (overloaded, (log_end, room))) state = inr (inr (inl (log_end, record {
-  core = n.core;
-  kept = m.durable n.replica;
-  setting = setting ∙ sym is;
-  me = me;
-  is = refl;
-  cause = room;
-  state = state ∙ ap (λ (r : Refusal). turned_away v k what r) overloaded;
-})))
-refused_comes m c v v' k what site n refusal is setting me (inr (invalid, (p, large))) state = inr (inr (inr (p, record {
-  core = n.core;
-  kept = m.durable n.replica;
-  setting = setting ∙ sym is;
-  me = me;
-  is = refl;
-  cause = large;
-  state = state ∙ ap (λ (r : Refusal). turned_away v k what r) invalid;
-})))
+refused_comes m c v v' k what site n refusal is setting me (inl (overloaded, (log_end, room))) state = inr (inr (inl (
+  log_end,
+  record {
+    core = n.core;
+    kept = m.durable n.replica;
+    setting = setting ∙ sym is;
+    me = me;
+    is = refl;
+    cause = room;
+    state = state ∙ ap (λ (r : Refusal). turned_away v k what r) overloaded;
+  },
+)))
+refused_comes m c v v' k what site n refusal is setting me (inr (invalid, (p, large))) state = inr (inr (inr (
+  p,
+  record {
+    core = n.core;
+    kept = m.durable n.replica;
+    setting = setting ∙ sym is;
+    me = me;
+    is = refl;
+    cause = large;
+    state = state ∙ ap (λ (r : Refusal). turned_away v k what r) invalid;
+  },
+)))
 
 refused_goes : {R : Type 0} (m : Keeper R) (c : Setting) (first : List NodeState) (seats : List (Seat R)) (post : Post) (chronicle : List Entry) (k : ℕ) (what : What) (seat seat' : Seat R) (n n' : Node R MemStore) (refusal : Refusal)
     → IsRun m c first seats post chronicle → slice_get seats k ≡ Some seat → seat.part ≡ Runs n → IsSeat (Runs n') seat.clock seat.told.items seat' → Stays m n n' → Refuses m n (event_at seat.clock what) refusal

@@ -18,4 +18,3 @@ pub settles_idle : (n m : ℕ) (v mid : ClusterState) → n ≤ m → Settles n 
 settles_idle zero m v mid few h none = subst (λ (x : ClusterState). Settles m x mid) h (idle m mid none)
 settles_idle (suc n) zero v mid few h none = absurd (omega (arith, few))
 settles_idle (suc n) (suc m) v mid few (next, first, rest) none = (next, first, settles_idle n m next mid (omega (arith, few)) rest none)
-

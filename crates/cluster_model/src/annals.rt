@@ -57,7 +57,10 @@ impl Annals {
             tables,
             refused: _,
         } = outputs;
-        add(&mut self.pieces, opening(room.first, node, started, alive, time));
+        add(
+            &mut self.pieces,
+            opening(room.first, node, started, alive, time),
+        );
         add(&mut self.pieces, entries);
         add(&mut self.pieces, closing(room.last, node, tables));
         self.mail.send(sends);

@@ -35,7 +35,7 @@ pub struct Cluster<R: MemReplica> {
 impl<R: MemReplica> Model for Cluster<R> {
     ghost use Rattle.cluster_model.specs.State.{ClusterState};
     ghost use Rattle.replica.specs.declared.error.LoadError.TheVariants as load_error;
-ghost use Rattle.cluster_model.specs.Sites.{keeper};
+    ghost use Rattle.cluster_model.specs.Sites.{keeper};
     ghost use Rattle.cluster_model.specs.Holding.{Holds, state_of};
 
     ghost Value = { ClusterState };

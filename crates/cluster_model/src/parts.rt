@@ -93,11 +93,7 @@ fn wake_at<R: MemReplica>(
 }
 
 /// Sets the clock of a node of these, and tells what it was.
-fn clock_at<R: MemReplica>(
-    seats: &mut Vec<Seat<R>>,
-    node: NodeId,
-    micros: Micros,
-) -> Option<Micros>
+fn clock_at<R: MemReplica>(seats: &mut Vec<Seat<R>>, node: NodeId, micros: Micros) -> Option<Micros>
     ensures seats { AtSeat (λ seat seat'. IsSeat seat.part micros seat.told.items seat') (Unit {0}) seats.old.items node (slice_get seats.old.items node) seats.new.items }
     ensures before { ClockWas seats.old.items node result }
 {

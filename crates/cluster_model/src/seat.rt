@@ -187,10 +187,7 @@ impl<R: MemReplica> Seat<R> {
             return Ok(Turn::Refused(Refusal::Down));
         };
         match node.step(alloc, event) {
-            Ok(outputs) => Ok(Turn::Stepped(
-                outputs,
-                alive_of(nodes, node.core.down()),
-            )),
+            Ok(outputs) => Ok(Turn::Stepped(outputs, alive_of(nodes, node.core.down()))),
             Err(StepError::Failed(lost)) => Ok(Turn::Stopped(lost, self.halt())),
             Err(StepError::NoRoom) => Ok(Turn::Refused(Refusal::Overloaded)),
             Err(StepError::TooLarge(_)) => Ok(Turn::Refused(Refusal::Invalid(
@@ -236,12 +233,7 @@ impl<R: MemReplica> Seat<R> {
     }
 
     /// Loads the node, unless it runs, and tells whether the load did not fail. At an error nothing has happened.
-    pub fn wake(
-        &mut self,
-        alloc: Global,
-        me: NodeId,
-        setting: Setting,
-    ) -> Result<bool, AllocError>
+    pub fn wake(&mut self, alloc: Global, me: NodeId, setting: Setting) -> Result<bool, AllocError>
         requires { MayWake (keeper R.stands_for R.durable R.disk R.is_whole) self.old.part }
         ensures ok { IfOk result (λ ok. WakesBy (keeper R.stands_for R.durable R.disk R.is_whole) setting me self.old self.old.part ok self.new) }
         ensures err { OnErr result (SleepsBy (keeper R.stands_for R.durable R.disk R.is_whole) self.old self.old.part self.new) }

@@ -22,14 +22,17 @@ returns-in-Ok-clause-ok g c =
     let ready : IsReady m c.in-Runs.node = subst (λ (p : Part g.row.R.Denot). MayTake m p) c.in-Runs.is c.requires in
     let steps = c.in-Ok.ensures.ok tt in
     let runs = ap (λ (x : Core). x.runs) steps.stays ∙ ready.runs in
-    subst (λ (p : Part g.row.R.Denot). TurnsBy m c.args.nodes.items seat p (event_at seat.clock c.args.what) (Stepped c.in-Ok.outputs c.alive_of.result) after) (sym c.in-Runs.is)
-    (c.step.new.self, (refl, refl, refl), record {
-      early = c.in-Ok.ensures.late;
-      steps = steps;
-      up = c.alive_of.ensures ∙ ap (λ (d : List ℕ). up_of d c.args.nodes.items) c.down.ensures;
-      ready = record { runs = runs; whole = c.in-Ok.ensures.whole runs; tied = c.in-Ok.ensures.tied runs tt };
-      sure = λ s. (c.in-Ok.ensures.surely ready.runs s).1;
-    })
+    subst (λ (p : Part g.row.R.Denot). TurnsBy m c.args.nodes.items seat p (event_at seat.clock c.args.what) (Stepped c.in-Ok.outputs c.alive_of.result) after) (sym c.in-Runs.is) (
+      c.step.new.self,
+      (refl, refl, refl),
+      record {
+        early = c.in-Ok.ensures.late;
+        steps = steps;
+        up = c.alive_of.ensures ∙ ap (λ (d : List ℕ). up_of d c.args.nodes.items) c.down.ensures;
+        ready = record { runs = runs; whole = c.in-Ok.ensures.whole runs; tied = c.in-Ok.ensures.tied runs tt };
+        sure = λ s. (c.in-Ok.ensures.surely ready.runs s).1;
+      },
+    )
 
 pub returns-in-Err-NoRoom-clause-ok : goal.returns-in-Err-NoRoom-clause-ok
 returns-in-Err-NoRoom-clause-ok g c =
