@@ -1,6 +1,8 @@
 -- What a cluster begins with is fit, and where its stores were formatted its runs are those of fresh nodes.
-use Rattle.std.proofs.Common.{◌≡◌, ℕ, zero, suc, ◌+◌, Option, Some, None, List, [], ◌∷◌, ◌++◌, append_assoc, refl, sym, ap, subst, ◌∙◌, arith, length, reverse}
-use Rattle.std.specs.Prelude.{map, replicate, slice_get, slice_set}
+use Rattle.std.proofs.Common.{◌≡◌, ℕ, zero, suc, ◌+◌, Option, Some, None, List, [], ◌∷◌, ◌++◌, append-nil, append_assoc, ◌<◌, ◌≤◌, refl, sym, ap, subst, ◌∙◌, arith, length, reverse}
+use Rattle.std.specs.Prelude.{Vec, map, replicate, slice_get, slice_set}
+use Rattle.std.specs.declared.alloc.Global.{Global}
+use Rattle.std.proofs.lemmas.List.{length-append}
 use Rattle.cs_store.specs.declared.mem.MemStore.{MemStore}
 use Rattle.cs_store.specs.Images.{formatted_bytes}
 use Rattle.peer_messages.specs.declared.chronicle.Entry.{Entry}
@@ -18,8 +20,10 @@ use Rattle.read_consistency.proofs.Traces.{run_right}
 use Rattle.cs_base.proofs.Slots.{some_one}
 use Rattle.cluster_model.specs.State.{Site, ClusterState, IsReached, IsShown, AreFresh, Post, no_post, begin_of, node_of, shown_of}
 use Rattle.cluster_model.specs.Sites.{Keeper, IsSeat}
-use Rattle.cluster_model.specs.Holding.{Fits, AreFit, IsRunning, IsRun, seen, site_of, states_of, running_state}
-use Rattle.cluster_model.specs.Beginning.{AreRead, IsFormatted, AreFormatted, StandsFor, AreLoaded, IsDamagedAt, IsSeated, AreSeated, begun_site}
+use Rattle.cluster_model.specs.Holding.{Fits, AreFit, IsRunning, IsRun, Holds, seen, site_of, states_of, running_state, first_of, entries_in, state_of}
+use Rattle.cluster_model.specs.Mails.{HoldsMail, post_of}
+use Rattle.cluster_model.specs.declared.parts.Parts.{Parts}
+use Rattle.cluster_model.specs.Beginning.{AreRead, IsFormatted, AreFormatted, StandsFor, AreLoaded, IsDamagedAt, IsSeated, AreSeated, Begins, begun_site}
 use Rattle.cluster_model.specs.declared.told.Told.{Told}
 use Rattle.cluster_model.specs.declared.seat.Part.{Part}
 use Rattle.cluster_model.specs.declared.seat.Part.TheVariants.{Runs, Rests, Lent}
@@ -163,3 +167,62 @@ are_fresh stands_for is_damaged laws c stores first long are h = record { count 
 
 pub not_damaged : (stands_for : (ℕ → List ℕ) → Durable → Type 0) (is_damaged : (ℕ → List ℕ) → ℕ → ℕ → Type 0) (laws : EmptyLaws stands_for is_damaged) (s : MemStore) (f p : ℕ) → IsFormatted s → IsDamagedAt is_damaged s f p → ⊥
 not_damaged stands_for is_damaged laws s f p is (files, read, damaged) = laws.undamaged files formatted f p (laws.empty files (read_formatted s files read is)) damaged
+
+-- the next store's node
+pub seated_next : {R : Type 0} (m : Keeper R) (c : Setting) (stores : List MemStore) (seats seats' : List (Seat R)) (s : MemStore) (seat : Seat R) (number me : ℕ) → AreSeated m c 0 stores seats → number ≡ length stores → me ≡ number → IsSeated m c me s seat → seats' ≡ seats ++ seat ∷ []
+    → AreSeated m c 0 (stores ++ s ∷ []) seats'
+seated_next {R} m c stores seats seats' s seat number me h count is one more =
+    subst (λ (xs : List (Seat R)). AreSeated m c 0 (stores ++ s ∷ []) xs) (sym more) (seated_more m c 0 stores seats s seat h (seated_number m c me (0 + length stores) s seat (let e : me ≡ 0 + length stores = omega (arith, is, count) in e) one))
+
+pub next_within : (all front it rest : List MemStore) (s : MemStore) → front ++ it ≡ all → it ≡ s ∷ rest → length front < length all
+next_within all front it rest s split next =
+    let long : length all ≡ length front + length it = ap length (sym split) ∙ length-append front it in
+    let some : length it ≡ suc (length rest) = ap length next in
+    omega (arith, long, some)
+
+pub next_there : (all front it rest : List MemStore) (s : MemStore) → front ++ it ≡ all → it ≡ s ∷ rest → slice_get all (length front) ≡ Some s
+next_there all [] it rest s split next = ap (λ (xs : List MemStore). slice_get xs 0) (sym split ∙ next)
+next_there all (x ∷ front) it rest s split next =
+    ap (λ (xs : List MemStore). slice_get xs (suc (length front))) (sym split) ∙ next_there (front ++ it) front it rest s refl next
+
+pub next_split : (all front it rest : List MemStore) (s : MemStore) → front ++ it ≡ all → it ≡ s ∷ rest → (front ++ s ∷ []) ++ rest ≡ all
+next_split all front it rest s split next = append_assoc front (s ∷ []) rest ∙ ap (λ (l : List MemStore). front ++ l) (sym next) ∙ split
+
+pub next_count : (front : List MemStore) (s : MemStore) (n : ℕ) → n ≡ length front → n + 1 ≡ length (front ++ s ∷ [])
+next_count front s n count = let e = length-append front (s ∷ []) in omega (arith, e, count)
+
+none_left : (xs : List MemStore) (n : ℕ) → n ≡ length xs → n ≡ 0 → xs ≡ []
+none_left [] n e z = refl
+none_left (x ∷ xs) n e z = let f = sym z ∙ e in cc
+
+pub all_seated : {R : Type 0} (m : Keeper R) (c : Setting) (all front it : List MemStore) (seats : List (Seat R)) (n : ℕ) → AreSeated m c 0 front seats → front ++ it ≡ all → n ≡ length it → n ≡ 0 → AreSeated m c 0 all seats
+all_seated {R} m c all front it seats n h split long none =
+    subst (λ (xs : List MemStore). AreSeated m c 0 xs seats) (sym (append-nil front) ∙ ap (λ (xs : List MemStore). front ++ xs) (sym (none_left it n long none)) ∙ split) h
+
+-- ---- the whole
+
+pub first_seated : {R : Type 0} (m : Keeper R) (begun : List (Vec (Seat R) Global × Unit {0})) (seats : Vec (Seat R) Global) → begun ≡ (seats, tt) ∷ [] → first_of m begun ≡ states_of m seats.items
+first_seated m begun seats is = ap (first_of m) is
+
+pub seated_holds : {R : Type 0} (m : Keeper R) (c : Setting) (stores : List MemStore) (p : Parts R) → p.setting ≡ c → length c.ring ≤ 7 → AreSeated m c 0 stores p.seats.items → first_of m p.begun.items ≡ states_of m p.seats.items
+    → HoldsMail p.annals.mail → post_of p.annals.mail ≡ no_post → entries_in p ≡ [] → Holds m p
+seated_holds m c stores p setting few h first mail posts entries =
+    let seats = p.seats.items in
+    record {
+      few = subst (λ (d : Setting). length d.ring ≤ 7) (sym setting) few;
+      mail = mail;
+      run = subst (λ (es : List Entry). IsRun m p.setting (first_of m p.begun.items) seats (post_of p.annals.mail) es) (sym entries)
+          (subst (λ (x : Post). IsRun m p.setting (first_of m p.begun.items) seats x []) (sym posts)
+          (subst (λ (ss : List NodeState). IsRun m p.setting ss seats no_post []) (sym first)
+          (subst (λ (d : Setting). IsRun m d (states_of m seats) seats no_post []) (sym setting) (seated_run m c stores seats h))));
+    }
+
+pub seated_begins : {R : Type 0} (m : Keeper R) (c : Setting) (stores : List MemStore) (p : Parts R) → p.setting ≡ c → AreSeated m c 0 stores p.seats.items → first_of m p.begun.items ≡ states_of m p.seats.items
+    → post_of p.annals.mail ≡ no_post → entries_in p ≡ [] → Begins m.stands_for c stores (state_of m p)
+seated_begins m c stores p setting h first posts entries = record {
+  setting = setting;
+  loaded = subst (λ (ss : List NodeState). AreLoaded m.stands_for stores ss) (sym first) (seated_loaded m c 0 stores p.seats.items h);
+  sites = seated_sites m c 0 stores p.seats.items h ∙ ap (λ (ss : List NodeState). map begun_site ss) (sym first);
+  post = posts;
+  chronicle = entries;
+}

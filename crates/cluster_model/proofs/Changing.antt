@@ -17,11 +17,11 @@ use Rattle.cluster_runs.specs.World.{World, Standing, Running, Down, Made, left_
 use Rattle.cluster_runs.specs.Run.{deeds_in}
 use Rattle.cluster_runs.specs.Run.RunFrom.{load, load_failed, stopped as stopped_between}
 use Rattle.cs_base.proofs.Members.{contains_here}
-use Rattle.cs_base.proofs.Slots.{set_same}
+use Rattle.cs_base.proofs.Slots.{some_one, set_get, set_same, set_set}
 use Rattle.cluster_model.specs.State.{Showing, Up, Off, Site, Post, ClusterState}
 use Rattle.cluster_model.specs.Takes.{changed, with_changed, with_site, stopped, set_clock, told_of, Restarts, RestartsAt, RestartsBy}
 use Rattle.cluster_model.specs.Faults.{NeverFails}
-use Rattle.cluster_model.specs.Sites.{Keeper, Crashed, IsReady, HasLeft, Stays, IsSeat, AtSeat, StaysBy, StaysAt, StopsBy, TellsBy, IsLoaded, StillLeft, WakesBy, SleepsBy}
+use Rattle.cluster_model.specs.Sites.{Keeper, Crashed, IsReady, HasLeft, Stays, IsSeat, AtSeat, StaysBy, StaysAt, StopsBy, TellsBy, IsLoaded, StillLeft, WakesBy, SleepsBy, ClockWas}
 use Rattle.cluster_model.specs.Holding.{Fits, AreFit, IsRunning, IsRun, seen, showing_of, site_of}
 use Rattle.cluster_model.specs.declared.told.Told.{Told}
 use Rattle.cluster_model.specs.declared.seat.Part.{Part}
@@ -174,6 +174,39 @@ pub tell_changes : {R : Type 0} (m : Keeper R) (c : Setting) (first : List NodeS
     → Changes m c first seats post chronicle k (told_of j fault) seats'
 tell_changes m c first seats seats' post chronicle k zero fault Otherwise run some h = absurd (some refl)
 tell_changes m c first seats seats' post chronicle k (suc j) fault Otherwise run some h = tell_by m c first seats seats' post chronicle k j fault (slice_get seats k) Otherwise run refl h
+
+same_one : (v : ClusterState) (k : ℕ) (o : Option Site) (fault : Told) → slice_get v.sites k ≡ o → with_changed (told_of zero fault) v k o ≡ v
+same_one v k None fault at = refl
+same_one v k (Some site) fault at = ap (λ (ss : List Site). let u : ClusterState = record v { sites = ss } in u) (set_same v.sites k site at)
+
+-- no fault is told
+pub none_told : (v : ClusterState) (k j : ℕ) (fault : Told) → j ≡ 0 → v ≡ changed (told_of j fault) v k
+none_told v k zero fault none = sym (same_one v k (slice_get v.sites k) fault refl)
+none_told v k (suc j) fault none = cc
+
+clock_there : (v : ClusterState) (k micros : ℕ) (o : Option Site) (site : Site) → slice_get v.sites k ≡ o → o ≡ Some site → changed (set_clock site.clock) (with_changed (set_clock micros) v k o) k ≡ v
+clock_there v k micros None site at is = cc
+clock_there v k micros (Some x) site at is =
+    let mid : ClusterState = with_site v k (set_clock micros x) in
+    ap (λ (o : Option Site). with_changed (set_clock site.clock) mid k o) (set_get v.sites k x (set_clock micros x) at)
+    ∙ ap (λ (ss : List Site). let u : ClusterState = record v { sites = ss } in u)
+        (set_set v.sites k (set_clock micros x) (set_clock site.clock x) ∙ ap (λ (y : Site). slice_set v.sites k (set_clock y.clock x)) (sym (some_one is)) ∙ set_same v.sites k x at)
+
+clock_gone : (v : ClusterState) (k micros : ℕ) → slice_get v.sites k ≡ None → changed (set_clock micros) v k ≡ v
+clock_gone v k micros at = ap (λ (o : Option Site). with_changed (set_clock micros) v k o) at
+
+-- a clock that is set back
+pub clock_back : {R : Type 0} (m : Keeper R) (seats : List (Seat R)) (v a b d : ClusterState) (k micros before : ℕ) → v.sites ≡ map (site_of m) seats → a ≡ changed (set_clock micros) v k → b ≡ a → d ≡ changed (set_clock before) b k
+    → ClockWas seats k (Some before) → d ≡ v
+clock_back m seats v a b d k micros before sites first same last (seat, at, clock) =
+    let there : slice_get v.sites k ≡ Some (site_of m seat) = ap (λ (xs : List Site). slice_get xs k) sites ∙ get_site m seats k seat at in
+    last ∙ ap (λ (u : ClusterState). changed (set_clock before) u k) (same ∙ first) ∙ ap (λ (n : ℕ). changed (set_clock n) (changed (set_clock micros) v k) k) (sym clock)
+    ∙ clock_there v k micros (slice_get v.sites k) (site_of m seat) refl there
+
+-- and one that is not there
+pub clock_none : {R : Type 0} (m : Keeper R) (seats : List (Seat R)) (v a b : ClusterState) (k micros : ℕ) → v.sites ≡ map (site_of m) seats → a ≡ changed (set_clock micros) v k → b ≡ a → ClockWas seats k None → b ≡ v
+clock_none m seats v a b k micros sites first same at =
+    same ∙ first ∙ clock_gone v k micros (ap (λ (xs : List Site). slice_get xs k) sites ∙ get_no_site m seats k at)
 
 -- ---- where nothing has happened
 

@@ -1,6 +1,6 @@
 -- What comes of an event at a node leads a run on.
 use Rattle.std.proofs.Common.{◌≡◌, ℕ, zero, suc, ◌+◌, arith, Bool, true, false, inl, inr, ◌&&◌, not, Option, Some, None, List, [], ◌∷◌, ◌++◌, refl, sym, ap, subst, ◌∙◌, length, reverse}
-use Rattle.std.specs.Prelude.{map, slice_get, slice_set, Result, Ok, Err, IfOk, OnErr}
+use Rattle.std.specs.Prelude.{map, slice_get, slice_set, Result, Ok, Err, IfOk, OnErr, OnOk}
 use Rattle.std.specs.List.{range_with_len}
 use Rattle.std.proofs.lemmas.List.{map-set}
 use Rattle.cs_store.specs.declared.mem.MemStore.{MemStore}
@@ -69,6 +69,23 @@ pub err_at_seat : {R T E : Type 0} (r : Result T E) (Becomes : Seat R → Seat R
     → OnErr r (AtSeat Becomes Otherwise seats k (slice_get seats k) (slice_set seats j seat'))
 err_at_seat (Ok x) Becomes Otherwise seats k j seat seat' number at becomes = tt
 err_at_seat (Err e) Becomes Otherwise seats k j seat seat' number at becomes = at_seat Becomes Otherwise seats k j seat seat' number at becomes
+
+pub ok_at_seat : {R T E : Type 0} (r : Result T E) (Becomes : Seat R → Seat R → Type 0) (Otherwise : Type 0) (seats : List (Seat R)) (k j : ℕ) (seat seat' : Seat R) → j ≡ k → slice_get seats j ≡ Some seat → OnOk r (Becomes seat seat')
+    → OnOk r (AtSeat Becomes Otherwise seats k (slice_get seats k) (slice_set seats j seat'))
+ok_at_seat (Ok x) Becomes Otherwise seats k j seat seat' number at becomes = at_seat Becomes Otherwise seats k j seat seat' number at becomes
+ok_at_seat (Err e) Becomes Otherwise seats k j seat seat' number at becomes = tt
+
+-- and one that is not
+pub no_seat : {R : Type 0} (Becomes : Seat R → Seat R → Type 0) (Otherwise : Type 0) (seats : List (Seat R)) (k : ℕ) → slice_get seats k ≡ None → Otherwise → AtSeat Becomes Otherwise seats k (slice_get seats k) seats
+no_seat {R} Becomes Otherwise seats k at other = subst (λ (o : Option (Seat R)). AtSeat Becomes Otherwise seats k o seats) (sym at) (other, refl)
+
+pub ok_parts : {T E : Type 0} (r : Result T E) (A B C : Type 0) → OnOk r A → B → OnOk r C → OnOk r (A × B × C)
+ok_parts (Ok x) A B C a b c = (a, b, c)
+ok_parts (Err e) A B C a b c = tt
+
+pub err_parts : {T E : Type 0} (r : Result T E) (A B C : Type 0) → OnErr r (A × C) → B → OnErr r (A × B × C)
+err_parts (Ok x) A B C ac b = tt
+err_parts (Err e) A B C ac b = (ac.0, b, ac.1)
 
 pub if_ok : {X E : Type 0} (r : Result X E) (P Q : X → Type 0) → IfOk r P → ((x : X) → P x → Q x) → IfOk r Q
 if_ok (Ok x) P Q h to = to x h

@@ -1,11 +1,13 @@
 -- Stores of nodes that stop, and loads of them.
-use Rattle.std.proofs.Common.{◌≡◌, ◌≢◌, ℕ, suc, ◌+◌, ◌<◌, ◌≤◌, Bool, inl, inr, Option, None, List, [], ◌∷◌, ◌++◌, refl, sym, ap, subst, ◌∙◌, arith, length, take, get_or}
+use Rattle.std.proofs.Common.{◌≡◌, ◌≢◌, ℕ, suc, ◌+◌, ◌<◌, ◌≤◌, Bool, true, false, inl, inr, Ok, Err, Option, None, List, [], ◌∷◌, ◌++◌, refl, sym, ap, subst, ◌∙◌, arith, length, take, get_or}
 use Rattle.std.proofs.Math.Seq.{take-suc}
 use Rattle.std.proofs.lemmas.Bool.{cases_lt, cases_eq}
 use Rattle.cs_store.specs.declared.mem.MemStore.{MemStore}
 use Rattle.cs_store.specs.declared.plan.Plan.{Plan}
 use Rattle.cs_store.specs.Disk.{Disk, Passes, Stays, IsImage, IsSettled}
-use Rattle.cs_store.specs.Mem.{disk_of, plan_of, is_stopped, IsSure, IsSameDisk, IsAllSettled}
+use Rattle.cs_store.specs.Images.{Images, settled}
+use Rattle.cs_store.specs.declared.mem_file.Outcome.TheVariants.{Kept}
+use Rattle.cs_store.specs.Mem.{disk_of, images_of, plan_of, is_stopped, IsSure, IsSameDisk, IsAllSettled}
 use Rattle.cs_store.specs.Past.{disk_at}
 use Rattle.cs_store.specs.Plan.{IsBehind}
 use Rattle.peer_messages.specs.declared.event.Event.{Event}
@@ -20,7 +22,15 @@ use Rattle.node_core.specs.declared.node.Node.{Node}
 use Rattle.node_core.specs.declared.outcome.Lost.{Lost}
 use Rattle.node_core.specs.Nodes.{state_with, Halts}
 use Rattle.cluster_model.specs.Faults.{NeverFails, is_failure, planned, all_planned}
-use Rattle.cluster_model.specs.Sites.{Keeper, Crashed, HasLeft, HasHalted, StillLeft}
+use Rattle.std.specs.Prelude.{Result, IfOk, OnErr}
+use Rattle.std.specs.declared.alloc.AllocError.{AllocError}
+use Rattle.peer_messages.specs.declared.setting.Setting.{Setting}
+use Rattle.cluster_model.specs.declared.seat.Part.{Part}
+use Rattle.cluster_model.specs.declared.seat.Part.TheVariants.{Runs, Rests, Lent}
+use Rattle.cluster_model.specs.declared.seat.Seat.{Seat}
+use Rattle.cluster_model.specs.declared.seat.Woken.{Woken}
+use Rattle.cluster_model.specs.declared.seat.Woken.TheVariants.{Up, Failed, NoMemory}
+use Rattle.cluster_model.specs.Sites.{Keeper, Crashed, HasLeft, HasHalted, StillLeft, Loads, Puts, WakesBy, SleepsBy}
 use Rattle.cluster_model.specs.declared.told.Told.{Told}
 
 pub never_fails : (s : MemStore) → IsSure s → NeverFails s
@@ -102,3 +112,27 @@ damaged_as me number place k f p s error same is =
     let number_is : number ≡ f = cc in
     let place_is : place ≡ p = cc in
     (sym me_is, (s, is ∙ (λ i. load_error.Damaged s (number_is i) (place_is i))))
+
+-- a crash that keeps what was written leaves what is read
+pub kept_read : (old new : MemStore) → ((k : ℕ) → images_of new k ≡ settled Kept (images_of old k)) → (k : ℕ) → (disk_of new).seen k ≡ (disk_of old).seen k
+kept_read old new h k = ap (λ (i : Images). i.kept) (h k)
+
+-- ---- what a load puts in its node's place
+
+pub wakes_ok : {R : Type 0} (m : Keeper R) (c : Setting) (k : ℕ) (seat seat' : Seat R) (part : Part R) (store : MemStore) (woken : Woken R) (r : Result Bool AllocError) → Loads m c k seat.told.items store woken → Puts (record seat { part = part }) woken r seat'
+    → IfOk r (λ ok. WakesBy m c k seat (Rests store) ok seat')
+wakes_ok m c k seat seat' part store (Up n) (Ok ok) h (is, here) = subst (λ (b : Bool). WakesBy m c k seat (Rests store) b seat') (sym is) (n, here, h.0, h.1)
+wakes_ok m c k seat seat' part store (Up n) (Err e) h here = tt
+wakes_ok m c k seat seat' part store (Failed s) (Ok ok) h (is, here) = subst (λ (b : Bool). WakesBy m c k seat (Rests store) b seat') (sym is) (s, here, h.0, h.1)
+wakes_ok m c k seat seat' part store (Failed s) (Err e) h here = tt
+wakes_ok m c k seat seat' part store (NoMemory s) (Ok ok) h here = absurd here
+wakes_ok m c k seat seat' part store (NoMemory s) (Err e) h here = tt
+
+pub wakes_err : {R : Type 0} (m : Keeper R) (c : Setting) (k : ℕ) (seat seat' : Seat R) (part : Part R) (store : MemStore) (woken : Woken R) (r : Result Bool AllocError) → Loads m c k seat.told.items store woken → Puts (record seat { part = part }) woken r seat'
+    → OnErr r (SleepsBy m seat (Rests store) seat')
+wakes_err m c k seat seat' part store (Up n) (Ok ok) h here = tt
+wakes_err m c k seat seat' part store (Up n) (Err e) h here = absurd here
+wakes_err m c k seat seat' part store (Failed s) (Ok ok) h here = tt
+wakes_err m c k seat seat' part store (Failed s) (Err e) h here = absurd here
+wakes_err m c k seat seat' part store (NoMemory s) (Ok ok) h here = tt
+wakes_err m c k seat seat' part store (NoMemory s) (Err e) h here = (s, here, h)

@@ -1,6 +1,6 @@
 -- From the parts of a cluster to what is seen of it.
 use Rattle.std.proofs.Common.{◌≡◌, ℕ, ◌≤◌, Bool, true, false, Option, Some, None, List, [], ◌∷◌, ◌++◌, refl, sym, ap, subst, ◌∙◌, length, reverse}
-use Rattle.std.specs.Prelude.{Vec, slice_get}
+use Rattle.std.specs.Prelude.{Vec, slice_get, Result, Ok, Err, OnOk, OnErr}
 use Rattle.std.specs.List.{range_with_len}
 use Rattle.std.specs.declared.alloc.Global.{Global}
 use Rattle.std.proofs.lemmas.List.{reverse-append}
@@ -12,18 +12,19 @@ use Rattle.peer_messages.specs.declared.setting.Setting.{Setting}
 use Rattle.node_steps.specs.State.{NodeState}
 use Rattle.cluster_runs.specs.Run.{WasSent}
 use Rattle.cluster_model.specs.State.{Site, Post, ClusterState, with_sent, passed_at}
-use Rattle.cluster_model.specs.Takes.{Comes, Restarts, changed}
+use Rattle.cluster_model.specs.Takes.{Comes, Restarts, changed, told_of}
 use Rattle.cluster_model.specs.Mails.{HoldsMail, post_of}
 use Rattle.cluster_model.specs.Turns.{asks, turn_entries, posted}
 use Rattle.cluster_model.specs.Annals.{IsSame, Enters, entries_of, joined}
-use Rattle.cluster_model.specs.Sites.{Keeper, AtSeat, StaysAt, TurnsAt, WakesBy, SleepsBy}
+use Rattle.cluster_model.specs.Sites.{Keeper, AtSeat, IsSeat, StaysAt, TurnsAt, TellsBy, WakesBy, SleepsBy}
+use Rattle.cluster_model.specs.declared.told.Told.{Told}
 use Rattle.cluster_model.specs.Holding.{IsRun, Holds, entries_in, first_of, seen, state_of}
 use Rattle.cluster_model.specs.declared.annals.Annals.{Annals}
 use Rattle.cluster_model.specs.declared.parts.Parts.{Parts}
 use Rattle.cluster_model.specs.declared.seat.Seat.{Seat}
 use Rattle.cluster_model.specs.declared.turn.Turn.{Turn}
 use Rattle.cluster_model.proofs.Going.{Goes, turn_goes}
-use Rattle.cluster_model.proofs.Changing.{Changes, Laws, Still, Wakes, load_entries, stay_still, sleep_still, wake_goes}
+use Rattle.cluster_model.proofs.Changing.{Changes, Laws, Still, Wakes, load_entries, stay_still, sleep_still, untold_still, tell_changes, wake_goes}
 
 -- the messages and entries of a run, told otherwise
 told_run : {R : Type 0} (m : Keeper R) (c : Setting) (first : List NodeState) (seats : List (Seat R)) (post post' : Post) (chronicle chronicle' : List Entry) → post' ≡ post → chronicle' ≡ chronicle → IsRun m c first seats post chronicle → IsRun m c first seats post' chronicle'
@@ -140,3 +141,35 @@ passed_holds m p annals place h posts mail pieces = record {
   run = told_run m p.setting (first_of m p.begun.items) p.seats.items (passed_at (post_of p.annals.mail) place) _ (entries_in p) _ posts (ap (λ (x : Vec (List Entry) Global). reverse (joined x.items)) pieces)
       (record { world = h.run.world; run = h.run.run; nodes = h.run.nodes; sent = h.run.sent; chronicle = h.run.chronicle });
 }
+
+-- ---- faults
+
+abbrev Tells : {R : Type 0} → Keeper R → Told → List (Seat R) → ℕ → List (Seat R) → Type 0
+Tells {R} m fault seats k seats' =
+    AtSeat (λ (seat seat' : Seat R). TellsBy m fault seat.part seat'.part × (seat'.clock ≡ seat.clock) × (seat'.told.items ≡ seat.told.items ++ fault ∷ [])) (Unit {0}) seats k (slice_get seats k) seats'
+
+abbrev Tells_none : {R : Type 0} → List (Seat R) → ℕ → List (Seat R) → Type 0
+Tells_none {R} seats k seats' = AtSeat (λ (seat seat' : Seat R). IsSeat seat.part seat.clock seat.told.items seat') (Unit {0}) seats k (slice_get seats k) seats'
+
+told : {R : Type 0} (m : Keeper R) (p : Parts R) (seats' : Vec (Seat R) Global) (k j : ℕ) (fault : Told) → Holds m p → (j ≡ 0 → ⊥) → Tells m fault p.seats.items k seats'.items → Changed m p k (told_of j fault) (record p { seats = seats' })
+told m p seats' k j fault h some tells =
+    changed_by m p seats' k (told_of j fault) h (tell_changes m p.setting (first_of m p.begun.items) p.seats.items seats'.items (post_of p.annals.mail) (entries_in p) k j fault (Unit {0}) h.run some tells)
+
+untold : {R : Type 0} (m : Keeper R) (p : Parts R) (seats' : Vec (Seat R) Global) (k : ℕ) → Holds m p → Tells_none p.seats.items k seats'.items → Kept m p (record p { seats = seats' })
+untold m p seats' k h tells =
+    let still = untold_still m p.setting (first_of m p.begun.items) p.seats.items seats'.items (post_of p.annals.mail) (entries_in p) k (Unit {0}) h.run tells in
+    record { state = still.state; holds = record { few = h.few; mail = h.mail; run = still.run } }
+
+pub told_state : {R T E : Type 0} (m : Keeper R) (p : Parts R) (r : Result T E) (seats' : Vec (Seat R) Global) (k j : ℕ) (fault : Told) → Holds m p → (j ≡ 0 → ⊥) → OnOk r (Tells m fault p.seats.items k seats'.items)
+    → OnOk r (state_of m (record p { seats = seats' }) ≡ changed (told_of j fault) (state_of m p) k)
+told_state m p (Ok x) seats' k j fault h some tells = (told m p seats' k j fault h some tells).state
+told_state m p (Err e) seats' k j fault h some tells = tt
+
+pub untold_state : {R T E : Type 0} (m : Keeper R) (p : Parts R) (r : Result T E) (seats' : Vec (Seat R) Global) (k : ℕ) → Holds m p → OnErr r (Tells_none p.seats.items k seats'.items) → OnErr r (state_of m (record p { seats = seats' }) ≡ state_of m p)
+untold_state m p (Ok x) seats' k h tells = tt
+untold_state m p (Err e) seats' k h tells = (untold m p seats' k h tells).state
+
+pub told_holds : {R T E : Type 0} (m : Keeper R) (p : Parts R) (r : Result T E) (seats' : Vec (Seat R) Global) (k j : ℕ) (fault : Told) → Holds m p → (j ≡ 0 → ⊥) → OnOk r (Tells m fault p.seats.items k seats'.items)
+    → OnErr r (Tells_none p.seats.items k seats'.items) → Holds m (record p { seats = seats' })
+told_holds m p (Ok x) seats' k j fault h some tells none = (told m p seats' k j fault h some tells).holds
+told_holds m p (Err e) seats' k j fault h some tells none = (untold m p seats' k h none).holds

@@ -83,11 +83,11 @@ fn all_seats<R: MemReplica>(
     setting: &Setting,
     stores: Vec<MemStore>,
 ) -> Result<Vec<Seat<R>>, ClusterError>
-    requires { vec_len stores ≤ 7 }
+    requires { vec_len stores ≡ length setting.now.ring }
     ensures seats { IfOk result (λ seats. AreSeated (keeper R.stands_for R.durable R.disk R.is_whole) setting.now 0 stores.items seats.items) }
     ensures damaged { (k f p : ℕ) → IsErrOf result (cluster_error.Damaged k f p) → (store : _) × (slice_get stores.items k ≡ Some store) × IsDamagedAt R.is_damaged store f p }
 {
-    let mut seats = Vec::new(alloc);
+    let mut seats = Vec::with_capacity(alloc, usize::from(setting.ring.nodes()))?;
     let mut number = 0;
     for store in stores {
         let setting = copy_setting(alloc, setting)?;

@@ -136,7 +136,8 @@ impl<R: MemReplica> Parts<R> {
         ensures passed { vec_len self.old.annals.mail.passed ≤ vec_len self.new.annals.mail.passed }
     {
         let room = self.annals.make_room(alloc)?;
-        let nodes = all_nodes(alloc, self.setting.ring.nodes())?;
+        let count = self.setting.ring.nodes();
+        let nodes = all_nodes(alloc, count)?;
         let is_ask = is_ask(&what);
         let turn = turn_at(&mut self.seats, alloc, nodes, node, what)?;
         self.annals.enter(node, is_ask, turn, room);

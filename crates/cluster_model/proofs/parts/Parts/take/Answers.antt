@@ -17,6 +17,11 @@ returns-in_err-turn-clause-holds g c =
     let m = keeper g.R.Replica.stands_for g.R.Replica.durable g.R.Replica.disk g.R.Replica.is_whole in
     (kept_staying m c.args.self.now c.make_room.new.self c.turn_at.new.seats c.args.node c.requires.holds c.make_room.ensures.same c.in_err-turn.ensures.err).holds
 
+pub returns-in_err-turn-clause-err : goal.returns-in_err-turn-clause-err
+returns-in_err-turn-clause-err g c =
+    let m = keeper g.R.Replica.stands_for g.R.Replica.durable g.R.Replica.disk g.R.Replica.is_whole in
+    (kept_staying m c.args.self.now c.make_room.new.self c.turn_at.new.seats c.args.node c.requires.holds c.make_room.ensures.same c.in_err-turn.ensures.err).state
+
 pub returns-clause-ok : goal.returns-clause-ok
 returns-clause-ok g c =
     let m = keeper g.R.Replica.stands_for g.R.Replica.durable g.R.Replica.disk g.R.Replica.is_whole in
