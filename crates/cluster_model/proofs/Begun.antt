@@ -201,8 +201,8 @@ all_seated {R} m c all front it seats n h split long none =
 
 -- ---- the whole
 
-pub first_seated : {R : Type 0} (m : Keeper R) (begun : List (Vec (Seat R) Global × Unit {0})) (seats : Vec (Seat R) Global) → begun ≡ (seats, tt) ∷ [] → first_of m begun ≡ states_of m seats.items
-first_seated m begun seats is = ap (first_of m) is
+pub first_seated : {R : Type 0} (m : Keeper R) (records : List (Vec (Seat R) Global × Unit {0})) (seats : Vec (Seat R) Global) → records ≡ (seats, tt) ∷ [] → first_of m records ≡ states_of m seats.items
+first_seated m records seats is = ap (first_of m) is
 
 pub seated_holds : {R : Type 0} (m : Keeper R) (c : Setting) (stores : List MemStore) (p : Parts R) → p.setting ≡ c → length c.ring ≤ 7 → AreSeated m c 0 stores p.seats.items → first_of m p.begun.items ≡ states_of m p.seats.items
     → HoldsMail p.annals.mail → post_of p.annals.mail ≡ no_post → entries_in p ≡ [] → Holds m p

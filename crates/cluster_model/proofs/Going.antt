@@ -79,6 +79,10 @@ ok_at_seat (Err e) Becomes Otherwise seats k j seat seat' number at becomes = tt
 pub no_seat : {R : Type 0} (Becomes : Seat R → Seat R → Type 0) (Otherwise : Type 0) (seats : List (Seat R)) (k : ℕ) → slice_get seats k ≡ None → Otherwise → AtSeat Becomes Otherwise seats k (slice_get seats k) seats
 no_seat {R} Becomes Otherwise seats k at other = subst (λ (o : Option (Seat R)). AtSeat Becomes Otherwise seats k o seats) (sym at) (other, refl)
 
+pub on_err : {T E : Type 0} (r : Result T E) (P : Type 0) → P → OnErr r P
+on_err (Ok x) P p = tt
+on_err (Err e) P p = p
+
 pub ok_parts : {T E : Type 0} (r : Result T E) (A B C : Type 0) → OnOk r A → B → OnOk r C → OnOk r (A × B × C)
 ok_parts (Ok x) A B C a b c = (a, b, c)
 ok_parts (Err e) A B C a b c = tt

@@ -173,3 +173,20 @@ pub told_holds : {R T E : Type 0} (m : Keeper R) (p : Parts R) (r : Result T E) 
     → OnErr r (Tells_none p.seats.items k seats'.items) → Holds m (record p { seats = seats' })
 told_holds m p (Ok x) seats' k j fault h some tells none = (told m p seats' k j fault h some tells).holds
 told_holds m p (Err e) seats' k j fault h some tells none = (untold m p seats' k h none).holds
+
+-- ---- loads that went well, and that failed
+
+pub woke_well : {R : Type 0} (m : Keeper R) (laws : Laws m) (p : Parts R) (annals : Annals) (seats' : Vec (Seat R) Global) (k : ℕ) (ok : Bool) (c : Setting) → Holds m p → IsSame p.annals annals → ok ≡ true → c ≡ p.setting
+    → AtSeat (λ (seat seat' : Seat R). WakesBy m c k seat seat.part ok seat') (ok ≡ true) p.seats.items k (slice_get p.seats.items k) seats'.items → Woke m p k (record p { seats = seats'; annals = annals })
+woke_well {R} m laws p annals seats' k ok c h same well setting wakes =
+    woke m laws p annals annals seats' k ok h same
+    (subst (λ (d : Setting). AtSeat (λ (seat seat' : Seat R). WakesBy m d k seat seat.part ok seat') (ok ≡ true) p.seats.items k (slice_get p.seats.items k) seats'.items) setting wakes) refl
+    (sym (ap (λ (b : Bool). load_entries k b ++ reverse (entries_of annals)) well))
+
+pub woke_not : {R : Type 0} (m : Keeper R) (laws : Laws m) (p : Parts R) (annals annals' : Annals) (seats' : Vec (Seat R) Global) (k : ℕ) (ok : Bool) (c : Setting) → Holds m p → IsSame p.annals annals → ok ≡ false → c ≡ p.setting
+    → AtSeat (λ (seat seat' : Seat R). WakesBy m c k seat seat.part ok seat') (ok ≡ true) p.seats.items k (slice_get p.seats.items k) seats'.items
+    → entries_of annals' ≡ entries_of annals ++ HasStopped k ∷ [] → annals'.mail ≡ annals.mail → Woke m p k (record p { seats = seats'; annals = annals' })
+woke_not {R} m laws p annals annals' seats' k ok c h same failed setting wakes entries mails =
+    woke m laws p annals annals' seats' k ok h same
+    (subst (λ (d : Setting). AtSeat (λ (seat seat' : Seat R). WakesBy m d k seat seat.part ok seat') (ok ≡ true) p.seats.items k (slice_get p.seats.items k) seats'.items) setting wakes) mails
+    (failure_last (entries_of annals) (entries_of annals') k entries ∙ sym (ap (λ (b : Bool). load_entries k b ++ reverse (entries_of annals)) failed))

@@ -1,6 +1,7 @@
 use Rattle.std.proofs.Common.{rules, ◌≡◌, Err, refl, sym, ap, subst, ◌∙◌}
 use Rattle.cs_store.specs.Mem.{disk_of}
 use Rattle.cluster_model.specs.Sites.{keeper}
+use Rattle.cluster_model.specs.declared.error.ClusterError.TheVariants as cluster_error
 use Rattle.cluster_model.proofs.Stores.{kept_read, never_fails}
 use Rattle.cluster_model.proofs.cluster.seat_of.Goals as goal
 
@@ -26,5 +27,6 @@ returns-in-Ok-clause-seat g c =
 
 pub returns-in-Err-clause-damaged : goal.returns-in-Err-clause-damaged
 returns-in-Err-clause-damaged g c = λ k f p is.
-    let from = c.refused.ensures k f p (err_is is) in
+    let same : c.refused.result ≡ cluster_error.Damaged k f p = cc in
+    let from = c.refused.ensures k f p same in
     (from.0, (disk_of c.crash.new.self).seen, kept_read c.args.store c.crash.new.self c.crash.ensures.files, c.in-Err.ensures.damaged from.1.0 f p (ap Err from.1.1) tt)

@@ -1,7 +1,7 @@
 use Rattle.std.proofs.Common.{rules, ◌≡◌, ◌++◌, [], ◌∷◌, ℕ, Some, None, Bool, true, List, refl, sym, ap, subst, ◌∙◌}
 use Rattle.std.specs.Prelude.{slice_get, slice_set}
 use Rattle.std.proofs.lemmas.Bool.{ltb-true}
-use Rattle.std.proofs.lemmas.Option.{slice_get-get_or}
+use Rattle.std.proofs.lemmas.Option.{slice_get-get_or, slice_get_past}
 use Rattle.cluster_model.specs.Sites.{keeper, IsSeat, TellsBy}
 use Rattle.cluster_model.specs.declared.seat.Seat.{Seat}
 use Rattle.cluster_model.proofs.Going.{ok_at_seat, err_at_seat, no_seat, ok_parts, err_parts}
@@ -29,5 +29,6 @@ returns-in-Some-clause-err g c =
 pub returns-in-None-clause-ok : goal.returns-in-None-clause-ok
 returns-in-None-clause-ok g c =
     let m = keeper g.R.Replica.stands_for g.R.Replica.durable g.R.Replica.disk g.R.Replica.is_whole in
-    let none : slice_get c.args.seats.now.items c.args.node ≡ None = search rules in
+    let number : c.from.result ≡ c.args.node = search rules in
+    let none = ap (λ (n : ℕ). slice_get c.args.seats.now.items n) (sym number) ∙ slice_get_past c.args.seats.now.items c.from.result (search rules) in
     no_seat (λ (x y : Seat g.row.R.Denot). TellsBy m c.args.fault x.part y.part × (y.clock ≡ x.clock) × (y.told.items ≡ x.told.items ++ c.args.fault ∷ [])) (Unit {0}) c.args.seats.now.items c.args.node none tt

@@ -3,6 +3,7 @@ use Rattle.std.specs.List.{range_with_len}
 use Rattle.cluster_model.specs.Annals.{Enters}
 use Rattle.cluster_model.specs.Sites.{keeper, TurnsAt}
 use Rattle.cluster_model.proofs.Fits.{may_take}
+use Rattle.cluster_model.proofs.Going.{on_err}
 use Rattle.cluster_model.proofs.Whole.{took, kept_staying}
 use Rattle.cluster_model.proofs.parts.Parts.take.Goals as goal
 
@@ -20,7 +21,7 @@ returns-in_err-turn-clause-holds g c =
 pub returns-in_err-turn-clause-err : goal.returns-in_err-turn-clause-err
 returns-in_err-turn-clause-err g c =
     let m = keeper g.R.Replica.stands_for g.R.Replica.durable g.R.Replica.disk g.R.Replica.is_whole in
-    (kept_staying m c.args.self.now c.make_room.new.self c.turn_at.new.seats c.args.node c.requires.holds c.make_room.ensures.same c.in_err-turn.ensures.err).state
+    on_err _ _ (kept_staying m c.args.self.now c.make_room.new.self c.turn_at.new.seats c.args.node c.requires.holds c.make_room.ensures.same c.in_err-turn.ensures.err).state
 
 pub returns-clause-ok : goal.returns-clause-ok
 returns-clause-ok g c =
