@@ -85,6 +85,7 @@ fn all_seats<R: MemReplica>(
 ) -> Result<Vec<Seat<R>>, ClusterError>
     requires { vec_len stores ≡ length setting.now.ring }
     ensures seats { IfOk result (λ seats. AreSeated (keeper R.stands_for R.durable R.disk R.is_whole) setting.now 0 stores.items seats.items) }
+    ensures few { IfOk result (λ seats. length setting.now.ring ≤ 7) }
     ensures damaged { (k f p : ℕ) → IsErrOf result (cluster_error.Damaged k f p) → (store : _) × (slice_get stores.items k ≡ Some store) × IsDamagedAt R.is_damaged store f p }
 {
     let mut seats = Vec::with_capacity(alloc, usize::from(setting.ring.nodes()))?;

@@ -21,6 +21,6 @@ loop-store-preserved g c =
     record {
       split = next_split c.args.stores.items c.loop-store.yielded (into_iter_items c.loop-store.store-iterator) (into_iter_items c.next.new.self) c.in-Some.store c.loop-store.invariant.split c.in-Some.ensures.steps.0;
       count = next_count c.loop-store.yielded c.in-Some.store c.loop-store.number c.loop-store.invariant.count;
-      seated = seated_next m c.args.setting.now c.loop-store.yielded c.loop-store.seats.items _ c.in-Some.store _ c.loop-store.number c.unwrap-me.result c.loop-store.invariant.seated c.loop-store.invariant.count me
-          (subst (λ (d : Setting). IsSeated m d c.unwrap-me.result c.in-Some.store _) c.in_ok-setting.ensures c.in_ok-seat_of.ensures.seat) c.in_ok-push.ensures.items;
+      seated = seated_next m c.args.setting.now c.loop-store.yielded c.loop-store.seats.items _ c.in-Some.store c.in_ok-seat_of.field-0 c.loop-store.number c.unwrap-me.result c.loop-store.invariant.seated c.loop-store.invariant.count me
+          (subst (λ (d : Setting). IsSeated m d c.unwrap-me.result c.in-Some.store c.in_ok-seat_of.field-0) c.in_ok-setting.ensures c.in_ok-seat_of.ensures.seat) c.in_ok-push.ensures.items;
     }

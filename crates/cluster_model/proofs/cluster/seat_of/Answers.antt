@@ -29,4 +29,4 @@ pub returns-in-Err-clause-damaged : goal.returns-in-Err-clause-damaged
 returns-in-Err-clause-damaged g c = λ k f p is.
     let same : c.refused.result ≡ cluster_error.Damaged k f p = cc in
     let from = c.refused.ensures k f p same in
-    (from.0, (disk_of c.crash.new.self).seen, kept_read c.args.store c.crash.new.self c.crash.ensures.files, c.in-Err.ensures.damaged from.1.0 f p (ap Err from.1.1) tt)
+    (from.0, ((disk_of c.crash.new.self).seen, kept_read c.args.store c.crash.new.self c.crash.ensures.files, c.in-Err.ensures.damaged from.1.0 f p (ap Err from.1.1) tt))

@@ -43,4 +43,4 @@ pub returns-in-Err-NoMemory : goal.returns-in-Err-NoMemory
 returns-in-Err-NoMemory g c =
     let m = keeper g.R.Replica.stands_for g.R.Replica.durable g.R.Replica.disk g.R.Replica.is_whole in
     let is = ap Err c.in-Err-NoMemory.field-0-is in
-    still_left m c.args.store c.tell_all.new.store c.in-Err-NoMemory.store c.reopened.result c.tell_all.ensures.disk (λ d stands. c.in-Err-NoMemory.ensures.any_moment_no_memory c.in-Err-NoMemory.store is tt d stands) c.reopened.ensures
+    still_left m c.args.store c.tell_all.new.store c.in-Err-NoMemory.store c.reopened-in-Err-NoMemory.result c.tell_all.ensures.disk (λ d stands. c.in-Err-NoMemory.ensures.any_moment_no_memory c.in-Err-NoMemory.store is tt d stands) c.reopened-in-Err-NoMemory.ensures
