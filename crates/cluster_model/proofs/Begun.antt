@@ -1,5 +1,5 @@
 -- What a cluster begins with is fit, and where its stores were formatted its runs are those of fresh nodes.
-use Rattle.std.proofs.Common.{◌≡◌, ℕ, zero, suc, ◌+◌, Option, Some, None, List, [], ◌∷◌, ◌++◌, append-nil, append_assoc, ◌<◌, ◌≤◌, refl, sym, ap, subst, ◌∙◌, arith, length, reverse}
+use Rattle.std.proofs.Common.{◌≡◌, ℕ, zero, suc, ◌+◌, Some, None, List, [], ◌∷◌, ◌++◌, append-nil, append_assoc, ◌<◌, ◌≤◌, refl, sym, ap, subst, ◌∙◌, arith, length}
 use Rattle.std.specs.Prelude.{Vec, map, replicate, slice_get, slice_set}
 use Rattle.std.specs.declared.alloc.Global.{Global}
 use Rattle.std.proofs.lemmas.List.{length-append}
@@ -9,7 +9,6 @@ use Rattle.peer_messages.specs.declared.chronicle.Entry.{Entry}
 use Rattle.peer_messages.specs.declared.setting.Setting.{Setting}
 use Rattle.durable_state.specs.State.{Durable, IsSameKept, formatted}
 use Rattle.node_steps.specs.State.{NodeState, loaded, fresh_node}
-use Rattle.node_core.specs.declared.node.Node.{Node}
 use Rattle.node_core.specs.Nodes.{state_with}
 use Rattle.cluster_runs.specs.World.{World, Standing, Running, Down, start}
 use Rattle.cluster_runs.specs.Run.{RunFrom, Run}
@@ -18,15 +17,13 @@ use Rattle.cluster_runs.proofs.Runs.{run_on}
 use Rattle.read_consistency.specs.ReadRight.{ReadRight}
 use Rattle.read_consistency.proofs.Traces.{run_right}
 use Rattle.cs_base.proofs.Slots.{some_one}
-use Rattle.cluster_model.specs.State.{Site, ClusterState, IsReached, IsShown, AreFresh, Post, no_post, begin_of, node_of, shown_of}
-use Rattle.cluster_model.specs.Sites.{Keeper, IsSeat}
-use Rattle.cluster_model.specs.Holding.{Fits, AreFit, IsRunning, IsRun, Holds, seen, site_of, states_of, running_state, first_of, entries_in, state_of}
+use Rattle.cluster_model.specs.State.{Site, ClusterState, IsReached, AreFresh, Post, no_post, begin_of}
+use Rattle.cluster_model.specs.Sites.{Keeper}
+use Rattle.cluster_model.specs.Holding.{Fits, AreFit, IsRun, Holds, seen, site_of, states_of, running_state, first_of, entries_in, state_of}
 use Rattle.cluster_model.specs.Mails.{HoldsMail, post_of}
 use Rattle.cluster_model.specs.declared.parts.Parts.{Parts}
 use Rattle.cluster_model.specs.Beginning.{AreRead, IsFormatted, AreFormatted, StandsFor, AreLoaded, IsDamagedAt, IsSeated, AreSeated, Begins, begun_site}
-use Rattle.cluster_model.specs.declared.told.Told.{Told}
-use Rattle.cluster_model.specs.declared.seat.Part.{Part}
-use Rattle.cluster_model.specs.declared.seat.Part.TheVariants.{Runs, Rests, Lent}
+use Rattle.cluster_model.specs.declared.seat.Part.TheVariants.{Runs}
 use Rattle.cluster_model.specs.declared.seat.Seat.{Seat}
 use Rattle.cluster_model.proofs.Fits.{are_shown}
 use Rattle.cluster_model.proofs.Going.{seat_site, put_fits}

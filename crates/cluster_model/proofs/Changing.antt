@@ -1,5 +1,5 @@
 -- Clocks, stops between events, faults that are told, and loads.
-use Rattle.std.proofs.Common.{◌≡◌, ℕ, zero, suc, Bool, true, false, inl, inr, Option, Some, None, List, [], ◌∷◌, ◌++◌, Contains, refl, sym, ap, subst, ◌∙◌, length, reverse}
+use Rattle.std.proofs.Common.{◌≡◌, ℕ, zero, suc, Bool, true, false, inl, inr, Option, Some, None, List, [], ◌∷◌, ◌++◌, Contains, refl, sym, ap, subst, ◌∙◌, reverse}
 use Rattle.std.specs.Prelude.{map, slice_get, slice_set}
 use Rattle.cs_store.specs.declared.mem.MemStore.{MemStore}
 use Rattle.cs_store.specs.Mem.{disk_of}
@@ -9,11 +9,11 @@ use Rattle.peer_messages.specs.declared.setting.Setting.{Setting}
 use Rattle.durable_state.specs.State.{Durable, IsSameKept}
 use Rattle.node_steps.specs.State.{NodeState, loaded}
 use Rattle.durable_state.proofs.Same.{same_on}
-use Rattle.replica.specs.Finding.{StandFor, IsSafe}
+use Rattle.replica.specs.Finding.{IsSafe}
 use Rattle.replica.specs.Kept.{IsKeptOf}
 use Rattle.node_core.specs.declared.node.Node.{Node}
 use Rattle.node_core.specs.Nodes.{Core, state_with}
-use Rattle.cluster_runs.specs.World.{World, Standing, Running, Down, Made, left_by}
+use Rattle.cluster_runs.specs.World.{World, Standing, Running, Down, left_by}
 use Rattle.cluster_runs.specs.Run.{deeds_in}
 use Rattle.cluster_runs.specs.Run.RunFrom.{load, load_failed, stopped as stopped_between}
 use Rattle.cs_base.proofs.Members.{contains_here}
@@ -21,8 +21,8 @@ use Rattle.cs_base.proofs.Slots.{some_one, set_get, set_same, set_set}
 use Rattle.cluster_model.specs.State.{Showing, Up, Off, Site, Post, ClusterState}
 use Rattle.cluster_model.specs.Takes.{changed, with_changed, with_site, stopped, set_clock, told_of, Restarts, RestartsAt, RestartsBy}
 use Rattle.cluster_model.specs.Faults.{NeverFails}
-use Rattle.cluster_model.specs.Sites.{Keeper, Crashed, IsReady, HasLeft, Stays, IsSeat, AtSeat, StaysBy, StaysAt, StopsBy, TellsBy, IsLoaded, StillLeft, WakesBy, SleepsBy, ClockWas}
-use Rattle.cluster_model.specs.Holding.{Fits, AreFit, IsRunning, IsRun, seen, showing_of, site_of}
+use Rattle.cluster_model.specs.Sites.{Keeper, Crashed, IsReady, HasLeft, IsSeat, AtSeat, StaysBy, StaysAt, StopsBy, TellsBy, IsLoaded, StillLeft, WakesBy, SleepsBy, ClockWas}
+use Rattle.cluster_model.specs.Holding.{Fits, IsRun, seen, showing_of, site_of}
 use Rattle.cluster_model.specs.declared.told.Told.{Told}
 use Rattle.cluster_model.specs.declared.seat.Part.{Part}
 use Rattle.cluster_model.specs.declared.seat.Part.TheVariants.{Runs, Rests, Lent}
@@ -190,7 +190,7 @@ clock_there v k micros (Some x) site at is =
     let mid : ClusterState = with_site v k (set_clock micros x) in
     ap (λ (o : Option Site). with_changed (set_clock site.clock) mid k o) (set_get v.sites k x (set_clock micros x) at)
     ∙ ap (λ (ss : List Site). let u : ClusterState = record v { sites = ss } in u)
-        (set_set v.sites k (set_clock micros x) (set_clock site.clock x) ∙ ap (λ (y : Site). slice_set v.sites k (set_clock y.clock x)) (sym (some_one is)) ∙ set_same v.sites k x at)
+    (set_set v.sites k (set_clock micros x) (set_clock site.clock x) ∙ ap (λ (y : Site). slice_set v.sites k (set_clock y.clock x)) (sym (some_one is)) ∙ set_same v.sites k x at)
 
 clock_gone : (v : ClusterState) (k micros : ℕ) → slice_get v.sites k ≡ None → changed (set_clock micros) v k ≡ v
 clock_gone v k micros at = ap (λ (o : Option Site). with_changed (set_clock micros) v k o) at

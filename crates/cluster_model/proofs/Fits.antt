@@ -1,14 +1,13 @@
 -- Nodes beside those of a run, one by one.
-use Rattle.std.proofs.Common.{◌≡◌, ℕ, zero, suc, ◌+◌, Option, Some, None, List, [], ◌∷◌, refl, sym, ap, subst, ◌∙◌, arith}
+use Rattle.std.proofs.Common.{◌≡◌, ℕ, zero, suc, ◌+◌, Option, Some, List, [], ◌∷◌, refl, ap, subst, ◌∙◌, arith}
 use Rattle.std.specs.Prelude.{map, slice_get, slice_set}
 use Rattle.cs_store.specs.declared.mem.MemStore.{MemStore}
 use Rattle.peer_messages.specs.declared.setting.Setting.{Setting}
 use Rattle.node_steps.specs.State.{NodeState}
 use Rattle.node_core.specs.declared.node.Node.{Node}
-use Rattle.node_core.specs.Nodes.{state_with}
 use Rattle.cluster_runs.specs.World.{Standing, Running, Down, Made, left_by}
 use Rattle.cs_base.proofs.Slots.{some_one}
-use Rattle.cluster_model.specs.State.{Showing, Up, Off, Site, node_of, shown_of}
+use Rattle.cluster_model.specs.State.{Showing, Up, node_of, shown_of}
 use Rattle.cluster_model.specs.Sites.{Keeper, MayTake, MayWake, HasLeft}
 use Rattle.cluster_model.specs.Holding.{Fits, AreFit, IsRunning, showing_of, site_of}
 use Rattle.cluster_model.specs.declared.told.Told.{Told}

@@ -8,16 +8,14 @@ use Rattle.cs_store.specs.Mem.{disk_of}
 use Rattle.peer_messages.specs.declared.event.What.{What}
 use Rattle.peer_messages.specs.declared.event.What.TheVariants.{Client, Deliver, Alive, Flush, Tick}
 use Rattle.peer_messages.specs.declared.chronicle.Entry.{Entry}
-use Rattle.peer_messages.specs.declared.chronicle.Entry.TheVariants.{Asked, Marks, Time}
+use Rattle.peer_messages.specs.declared.chronicle.Entry.TheVariants.{Marks, Time}
 use Rattle.peer_messages.specs.declared.chronicle.Refusal.{Refusal}
-use Rattle.peer_messages.specs.declared.chronicle.Refusal.TheVariants.{Overloaded, Invalid, Down as IsDown}
-use Rattle.peer_messages.specs.declared.chronicle.Invalid.TheVariants.{PartitionTooLarge}
+use Rattle.peer_messages.specs.declared.chronicle.Refusal.TheVariants.{Down as IsDown}
 use Rattle.peer_messages.specs.declared.message.Message.{Message}
 use Rattle.peer_messages.specs.declared.outcome.Outputs.{Outputs}
 use Rattle.peer_messages.specs.declared.setting.Setting.{Setting}
 use Rattle.durable_state.specs.State.{Durable, IsSameKept}
-use Rattle.node_steps.specs.State.{NodeState, durable_of}
-use Rattle.node_steps.specs.Acts.{Deed}
+use Rattle.node_steps.specs.State.{NodeState}
 use Rattle.node_steps.specs.Steps.{NodeStep}
 use Rattle.node_steps.specs.Stops.{asked_by, remains, remains_in, CutStep, MayBeLeft}
 use Rattle.replica.specs.Finding.{StandFor}
@@ -30,11 +28,11 @@ use Rattle.cluster_runs.specs.Run.RunFrom.{more, stopped_in, turned}
 use Rattle.cs_base.proofs.Members.{contains_here, contains_there}
 use Rattle.cs_base.proofs.Slots.{some_one, set_same}
 use Rattle.cluster_model.specs.State.{Showing, Up, Off, Site, Post, ClusterState, with_sent}
-use Rattle.cluster_model.specs.Takes.{Comes, ComesAt, ComesBy, StepsAt, StopsAt, WasTold, event_at, turned_away, stepped, stopped}
-use Rattle.cluster_model.specs.Faults.{NeverFails, is_fail, has_fail, has_stop, is_failure}
-use Rattle.cluster_model.specs.Sites.{Keeper, IsReady, HasStepped, HasHalted, HasLeft, Stays, Refuses, IsSeat, TurnsUp, TurnsBy, Turns, TurnsAt, AtSeat, StaysBy, StaysAt}
+use Rattle.cluster_model.specs.Takes.{Comes, ComesAt, ComesBy, WasTold, event_at, turned_away, stopped}
+use Rattle.cluster_model.specs.Faults.{has_fail, has_stop, is_failure}
+use Rattle.cluster_model.specs.Sites.{Keeper, HasStepped, HasHalted, Stays, Refuses, IsSeat, TurnsUp, TurnsBy, Turns, TurnsAt, AtSeat}
 use Rattle.cluster_model.specs.Turns.{asks, turn_entries, posted}
-use Rattle.cluster_model.specs.Holding.{Fits, AreFit, IsRunning, IsRun, seen, showing_of, site_of}
+use Rattle.cluster_model.specs.Holding.{Fits, AreFit, IsRun, seen, showing_of, site_of}
 use Rattle.cluster_model.specs.declared.told.Told.{Told}
 use Rattle.cluster_model.specs.declared.told.Told.TheVariants.{Fail, Stop}
 use Rattle.cluster_model.specs.declared.seat.Part.{Part}

@@ -1,5 +1,5 @@
 -- No event changes the setting, and what the nodes were loaded with at first.
-use Rattle.std.proofs.Common.{◌≡◌, ℕ, zero, suc, inl, inr, Option, Some, None, refl, sym, ap, subst, ◌∙◌}
+use Rattle.std.proofs.Common.{◌≡◌, ℕ, zero, suc, inl, inr, Option, Some, None, refl, ap, ◌∙◌}
 use Rattle.std.specs.declared.alloc.AllocError.{AllocError}
 use Rattle.std.specs.Prelude.{Result, Ok, Err, OnOk, OnErr, slice_get}
 use Rattle.peer_messages.specs.declared.message.Message.{Message}
@@ -9,7 +9,7 @@ use Rattle.peer_messages.specs.declared.chronicle.Refusal.{Refusal}
 use Rattle.peer_messages.specs.declared.chronicle.Refusal.TheVariants.{Overloaded, Invalid, Down as IsDown}
 use Rattle.peer_messages.specs.declared.chronicle.Invalid.TheVariants.{PartitionTooLarge}
 use Rattle.cluster_model.specs.State.{Showing, Up, Off, Site, ClusterState, KeepsOn, place_of, oldest_from, passed_over}
-use Rattle.cluster_model.specs.Takes.{ComesBy, ComesAt, Comes, Arrives, Delivers, Settles, Takes, Stands, RestartsBy, RestartsAt, Restarts, turned_away, with_changed, changed, stopped, set_clock, told_of, lost, stepped}
+use Rattle.cluster_model.specs.Takes.{ComesBy, ComesAt, Comes, Arrives, Delivers, Settles, Takes, Stands, RestartsBy, RestartsAt, turned_away, with_changed, changed, stopped, set_clock, told_of, lost}
 use Rattle.cluster_model.specs.declared.told.Told.TheVariants.{Fail, Stop}
 use Rattle.cluster_model.specs.declared.event.ClusterEvent.{ClusterEvent}
 use Rattle.cluster_model.specs.declared.event.ClusterEvent.TheVariants as event

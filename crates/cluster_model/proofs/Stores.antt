@@ -1,5 +1,5 @@
 -- Stores of nodes that stop, and loads of them.
-use Rattle.std.proofs.Common.{◌≡◌, ◌≢◌, ℕ, suc, ◌+◌, ◌<◌, ◌≤◌, Bool, true, false, inl, inr, Ok, Err, Option, None, List, [], ◌∷◌, ◌++◌, refl, sym, ap, subst, ◌∙◌, arith, length, take, get_or}
+use Rattle.std.proofs.Common.{◌≡◌, ℕ, suc, ◌+◌, ◌<◌, Bool, inl, inr, Ok, Err, Option, List, [], ◌∷◌, ◌++◌, refl, sym, ap, subst, ◌∙◌, arith, length, take, get_or}
 use Rattle.std.proofs.Math.Seq.{take-suc}
 use Rattle.std.proofs.lemmas.Bool.{cases_lt, cases_eq}
 use Rattle.cs_store.specs.declared.mem.MemStore.{MemStore}
@@ -14,23 +14,23 @@ use Rattle.peer_messages.specs.declared.event.Event.{Event}
 use Rattle.durable_state.specs.State.{Durable, IsSameKept}
 use Rattle.durable_state.proofs.Same.{same_on}
 use Rattle.node_steps.specs.Stops.{remains}
-use Rattle.replica.specs.Finding.{StandFor, AlwaysLeaves}
+use Rattle.replica.specs.Finding.{AlwaysLeaves}
 use Rattle.replica.specs.declared.error.LoadError.{LoadError}
 use Rattle.replica.specs.declared.error.LoadError.TheVariants as load_error
 use Rattle.cluster_model.specs.declared.error.ClusterError.TheVariants.{Damaged}
 use Rattle.node_core.specs.declared.node.Node.{Node}
 use Rattle.node_core.specs.declared.outcome.Lost.{Lost}
-use Rattle.node_core.specs.Nodes.{state_with, Halts}
+use Rattle.node_core.specs.Nodes.{Halts}
 use Rattle.cluster_model.specs.Faults.{NeverFails, is_failure, planned, all_planned}
 use Rattle.std.specs.Prelude.{Result, IfOk, OnErr}
 use Rattle.std.specs.declared.alloc.AllocError.{AllocError}
 use Rattle.peer_messages.specs.declared.setting.Setting.{Setting}
 use Rattle.cluster_model.specs.declared.seat.Part.{Part}
-use Rattle.cluster_model.specs.declared.seat.Part.TheVariants.{Runs, Rests, Lent}
+use Rattle.cluster_model.specs.declared.seat.Part.TheVariants.{Rests}
 use Rattle.cluster_model.specs.declared.seat.Seat.{Seat}
 use Rattle.cluster_model.specs.declared.seat.Woken.{Woken}
 use Rattle.cluster_model.specs.declared.seat.Woken.TheVariants.{Up, Failed, NoMemory}
-use Rattle.cluster_model.specs.Sites.{Keeper, Crashed, HasLeft, HasHalted, StillLeft, Loads, Puts, WakesBy, SleepsBy}
+use Rattle.cluster_model.specs.Sites.{Keeper, Crashed, HasHalted, StillLeft, Loads, Puts, WakesBy, SleepsBy}
 use Rattle.cluster_model.specs.declared.told.Told.{Told}
 
 pub never_fails : (s : MemStore) → IsSure s → NeverFails s

@@ -1,5 +1,5 @@
 -- From the parts of a cluster to what is seen of it.
-use Rattle.std.proofs.Common.{◌≡◌, ℕ, ◌≤◌, Bool, true, false, Option, Some, None, List, [], ◌∷◌, ◌++◌, refl, sym, ap, subst, ◌∙◌, length, reverse}
+use Rattle.std.proofs.Common.{◌≡◌, ℕ, Bool, true, false, List, [], ◌∷◌, ◌++◌, refl, sym, ap, subst, ◌∙◌, length, reverse}
 use Rattle.std.specs.Prelude.{Vec, slice_get, Result, Ok, Err, OnOk, OnErr}
 use Rattle.std.specs.List.{range_with_len}
 use Rattle.std.specs.declared.alloc.Global.{Global}
@@ -7,14 +7,13 @@ use Rattle.std.proofs.lemmas.List.{reverse-append}
 use Rattle.peer_messages.specs.declared.chronicle.Entry.{Entry}
 use Rattle.peer_messages.specs.declared.chronicle.Entry.TheVariants.{Stopped as HasStopped}
 use Rattle.peer_messages.specs.declared.event.What.{What}
-use Rattle.peer_messages.specs.declared.message.Message.{Message}
 use Rattle.peer_messages.specs.declared.setting.Setting.{Setting}
 use Rattle.node_steps.specs.State.{NodeState}
 use Rattle.cluster_runs.specs.Run.{WasSent}
-use Rattle.cluster_model.specs.State.{Site, Post, ClusterState, with_sent, passed_at}
+use Rattle.cluster_model.specs.State.{Site, Post, ClusterState, passed_at}
 use Rattle.cluster_model.specs.Takes.{Comes, Restarts, changed, told_of}
 use Rattle.cluster_model.specs.Mails.{HoldsMail, post_of}
-use Rattle.cluster_model.specs.Turns.{asks, turn_entries, posted}
+use Rattle.cluster_model.specs.Turns.{asks, turn_entries}
 use Rattle.cluster_model.specs.Annals.{IsSame, Enters, entries_of, joined}
 use Rattle.cluster_model.specs.Sites.{Keeper, AtSeat, IsSeat, StaysAt, TurnsAt, TellsBy, WakesBy, SleepsBy}
 use Rattle.cluster_model.specs.declared.told.Told.{Told}
@@ -23,8 +22,8 @@ use Rattle.cluster_model.specs.declared.annals.Annals.{Annals}
 use Rattle.cluster_model.specs.declared.parts.Parts.{Parts}
 use Rattle.cluster_model.specs.declared.seat.Seat.{Seat}
 use Rattle.cluster_model.specs.declared.turn.Turn.{Turn}
-use Rattle.cluster_model.proofs.Going.{Goes, turn_goes}
-use Rattle.cluster_model.proofs.Changing.{Changes, Laws, Still, Wakes, load_entries, stay_still, sleep_still, untold_still, tell_changes, wake_goes}
+use Rattle.cluster_model.proofs.Going.{turn_goes}
+use Rattle.cluster_model.proofs.Changing.{Changes, Laws, Still, load_entries, stay_still, sleep_still, untold_still, tell_changes, wake_goes}
 
 -- the messages and entries of a run, told otherwise
 told_run : {R : Type 0} (m : Keeper R) (c : Setting) (first : List NodeState) (seats : List (Seat R)) (post post' : Post) (chronicle chronicle' : List Entry) → post' ≡ post → chronicle' ≡ chronicle → IsRun m c first seats post chronicle → IsRun m c first seats post' chronicle'

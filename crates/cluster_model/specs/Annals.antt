@@ -1,5 +1,5 @@
 -- What is sent and entered in a cluster, as it is kept, and what an event adds.
-use Rattle.std.specs.Prelude.{◌≡◌, ◌+◌, ◌++◌, ◌≤◌, ℕ, Bool, Option, None, List, [], vec_len, vec_capacity}
+use Rattle.std.specs.Prelude.{◌≡◌, ◌+◌, ◌++◌, ◌≤◌, ℕ, Bool, None, List, [], vec_len, vec_capacity}
 use Rattle.std.specs.List.{flat_map}
 use Rattle.peer_messages.specs.declared.chronicle.Entry.{Entry}
 use Rattle.cluster_model.specs.Mails.{HoldsMail, post_of}

@@ -1,5 +1,5 @@
 -- The nodes of a cluster as they are kept, and what comes of an event at one of them.
-use Rattle.std.specs.Prelude.{◌≡◌, ◌⊎◌, ℕ, ◌≤◌, Bool, true, false, Option, Some, None, List, [], ◌∷◌, ◌++◌, length, slice_get, slice_set, Result, Ok, Err}
+use Rattle.std.specs.Prelude.{◌≡◌, ◌⊎◌, ℕ, ◌≤◌, Bool, true, false, Option, Some, None, List, [], slice_get, slice_set, Result, Ok, Err}
 use Rattle.std.specs.declared.alloc.AllocError.{AllocError}
 use Rattle.changes.specs.declared.Partition.{Partition}
 use Rattle.cs_store.specs.declared.mem.MemStore.{MemStore}
@@ -14,7 +14,7 @@ use Rattle.peer_messages.specs.declared.outcome.Outputs.{Outputs}
 use Rattle.peer_messages.specs.declared.setting.Setting.{Setting}
 use Rattle.peer_messages.specs.Settings.{up_of}
 use Rattle.durable_state.specs.State.{Durable, IsSameKept}
-use Rattle.node_steps.specs.State.{NodeState, loaded}
+use Rattle.node_steps.specs.State.{loaded}
 use Rattle.node_steps.specs.Acts.{Deed}
 use Rattle.node_steps.specs.Steps.{risen_time, end_of_time}
 use Rattle.node_steps.specs.Stops.{remains, remains_in, CutStep, MayBeLeft}

@@ -11,7 +11,6 @@ use Rattle.peer_messages.specs.declared.chronicle.Invalid.TheVariants.{Partition
 use Rattle.peer_messages.specs.declared.chronicle.Refusal.{Refusal}
 use Rattle.peer_messages.specs.declared.chronicle.Refusal.TheVariants.{Overloaded, Invalid, Down as IsDown}
 use Rattle.peer_messages.specs.declared.outcome.Outputs.{Outputs}
-use Rattle.peer_messages.specs.declared.setting.Setting.{Setting}
 use Rattle.durable_state.specs.State.{Durable}
 use Rattle.node_steps.specs.State.{NodeState, loaded}
 use Rattle.node_steps.specs.Acts.{Deed}

@@ -1,10 +1,9 @@
-use Rattle.std.proofs.Common.{rules, ◌≡◌, ◌<◌, ℕ, Some, Err, length, sym, ap, subst, ◌∙◌}
+use Rattle.std.proofs.Common.{rules, ◌≡◌, ℕ, ap, subst, ◌∙◌}
 use Rattle.std.specs.Prelude.{slice_get}
 use Rattle.std.specs.Vec.Iter.{into_iter_items}
 use Rattle.peer_messages.specs.declared.setting.Setting.{Setting}
-use Rattle.cluster_model.specs.declared.error.ClusterError.TheVariants as cluster_error
 use Rattle.cluster_model.specs.Sites.{keeper}
-use Rattle.cluster_model.specs.Beginning.{IsSeated, AreSeated}
+use Rattle.cluster_model.specs.Beginning.{IsSeated}
 use Rattle.cluster_model.proofs.Begun.{seated_next, next_there, next_split, next_count}
 use Rattle.cluster_model.proofs.cluster.all_seats.Goals as goal
 

@@ -1,4 +1,4 @@
-use Rattle.std.proofs.Common.{rules, ◌≡◌, Err, refl, sym, ap, subst, ◌∙◌}
+use Rattle.std.proofs.Common.{rules, ◌≡◌, Err, refl, ap}
 use Rattle.cs_store.specs.Mem.{disk_of}
 use Rattle.cluster_model.specs.Sites.{keeper}
 use Rattle.cluster_model.specs.declared.error.ClusterError.TheVariants as cluster_error

@@ -1,4 +1,4 @@
-use Rattle.std.proofs.Common.{rules, ◌≡◌, Err, refl, sym, ap, subst, ◌∙◌}
+use Rattle.std.proofs.Common.{Err, sym, ap, subst}
 use Rattle.cs_store.specs.Disk.{Disk}
 use Rattle.cs_store.specs.Mem.{disk_of}
 use Rattle.cluster_model.specs.Sites.{keeper}
@@ -18,8 +18,7 @@ unreachable-requires g c =
 
 pub returns-in-Ok : goal.returns-in-Ok
 returns-in-Ok g c =
-    let m = keeper g.R.Replica.stands_for g.R.Replica.durable g.R.Replica.disk g.R.Replica.is_whole in
-    (
+    let m = keeper g.R.Replica.stands_for g.R.Replica.durable g.R.Replica.disk g.R.Replica.is_whole in (
       record {
         found = subst (λ (d : Disk). m.stands_for d.seen (m.durable c.in-Ok.node.replica)) (same_disk c.args.store c.tell_all.new.store c.tell_all.ensures.disk) (c.in-Ok.ensures.found tt);
         state = c.in-Ok.ensures.state tt;
@@ -33,8 +32,7 @@ returns-in-Ok g c =
 pub returns-in-Err-Failed : goal.returns-in-Err-Failed
 returns-in-Err-Failed g c =
     let m = keeper g.R.Replica.stands_for g.R.Replica.durable g.R.Replica.disk g.R.Replica.is_whole in
-    let is = ap Err c.in-Err-Failed.field-0-is in
-    (
+    let is = ap Err c.in-Err-Failed.field-0-is in (
       still_left m c.args.store c.tell_all.new.store c.in-Err-Failed.store c.reopened.result c.tell_all.ensures.disk (λ d stands. c.in-Err-Failed.ensures.any_moment_failed c.in-Err-Failed.store is tt d stands) c.reopened.ensures,
       λ none. (c.in-Err-Failed.ensures.surely (told_nothing c.args.store c.tell_all.new.store c.args.told.now c.tell_all.ensures.plan c.tell_all.ensures.stopped none c.requires.1.sure)).0 c.in-Err-Failed.store is,
     )

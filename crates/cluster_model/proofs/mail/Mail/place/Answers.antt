@@ -1,4 +1,4 @@
-use Rattle.std.proofs.Common.{rules, ◌<◌, ◌≤◌, length}
+use Rattle.std.proofs.Common.{rules}
 use Rattle.cluster_model.proofs.Open.{place_found}
 use Rattle.cluster_model.proofs.mail.Mail.place.Goals as goal
 

@@ -1,4 +1,3 @@
-use Rattle.std.proofs.Common.{Result, OnErr}
 use Rattle.cluster_model.specs.Sites.{keeper}
 use Rattle.cluster_model.proofs.Fits.{may_wake}
 use Rattle.cluster_model.proofs.Changing.{Laws}

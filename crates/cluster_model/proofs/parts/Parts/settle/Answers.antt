@@ -16,8 +16,7 @@ returns-then-not-branch-clause-ok g c =
 
 pub loop-preserved : goal.loop-preserved
 loop-preserved g c =
-    let m = keeper g.R.Replica.stands_for g.R.Replica.durable g.R.Replica.disk g.R.Replica.is_whole in
-    (
+    let m = keeper g.R.Replica.stands_for g.R.Replica.durable g.R.Replica.disk g.R.Replica.is_whole in (
       c.deliver_oldest.ensures.holds,
       settles_more c.loop.counter _ (state_of m c.args.self.now) (state_of m c.loop.self) (state_of m c.deliver_oldest.new.self) c.loop.invariant.1 c.in_ok-deliver_oldest.ensures.ok refl,
     )

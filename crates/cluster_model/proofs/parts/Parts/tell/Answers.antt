@@ -1,4 +1,4 @@
-use Rattle.std.proofs.Common.{rules, ◌≡◌, ℕ}
+use Rattle.std.proofs.Common.{rules, ◌≡◌}
 use Rattle.cluster_model.specs.Sites.{keeper}
 use Rattle.cluster_model.specs.Holding.{state_of}
 use Rattle.cluster_model.proofs.Changing.{none_told}

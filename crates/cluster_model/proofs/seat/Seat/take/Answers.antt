@@ -6,7 +6,7 @@ use Rattle.node_core.specs.declared.outcome.Lost.{Lost}
 use Rattle.node_core.specs.Nodes.{Core}
 use Rattle.cluster_model.specs.Faults.{NeverFails}
 use Rattle.cluster_model.specs.Takes.{event_at}
-use Rattle.cluster_model.specs.Sites.{keeper, IsReady, MayTake, Stays, StaysBy, HasStepped, TurnsBy}
+use Rattle.cluster_model.specs.Sites.{keeper, IsReady, MayTake, Stays, StaysBy, TurnsBy}
 use Rattle.cluster_model.specs.declared.seat.Part.{Part}
 use Rattle.cluster_model.specs.declared.seat.Part.TheVariants.{Runs}
 use Rattle.cluster_model.specs.declared.seat.Seat.{Seat}
