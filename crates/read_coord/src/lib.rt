@@ -61,6 +61,36 @@ impl Model for ReadCoord {
     ghost invariant = { λ a. IsSome a.merged ⊎ (a.replies.items ≢ []) };
 }
 
+impl Reply {
+    fn copy(&self, alloc: Global) -> Result<Reply, AllocError>
+        ensures { IfOk result (λ reply. reply ≡ self.now) }
+    {
+        Ok(Reply {
+            from: self.from,
+            content: self.content.copy(alloc)?,
+        })
+    }
+}
+
+fn copy_replies(alloc: Global, replies: &[Reply]) -> Result<Vec<Reply>, AllocError>
+    ensures { IfOk result (λ copies. copies.items ≡ replies.now) }
+{
+    let mut copies = Vec::new(alloc);
+    for reply in replies {
+        copies.push(reply.copy(alloc)?)?;
+    }
+    Ok(copies)
+}
+
+fn copy_merged(alloc: Global, merged: &Option<Content>) -> Result<Option<Content>, AllocError>
+    ensures { IfOk result (λ copy. copy ≡ merged.now) }
+{
+    match merged {
+        Some(merged) => Ok(Some(merged.copy(alloc)?)),
+        None => Ok(None),
+    }
+}
+
 fn ask(alloc: Global, request: ReqId, query: &Query, node: NodeId) -> Result<Outbound, AllocError>
     ensures { IfOk result (λ sent. sent ≡ outbound request (Read query.now) node) }
 {
@@ -159,6 +189,18 @@ impl ReadCoord {
             query: query.copy(alloc)?,
             replies: Vec::new(alloc),
             merged: Some(Content::new(alloc)),
+        })
+    }
+
+    /// A copy of the read, which shares no memory with it.
+    pub fn copy(&self, alloc: Global) -> Result<ReadCoord, AllocError>
+        ensures { IfOk result (λ read. read ≡ self.now) }
+    {
+        Ok(ReadCoord {
+            level: self.level,
+            query: self.query.copy(alloc)?,
+            replies: copy_replies(alloc, &self.replies)?,
+            merged: copy_merged(alloc, &self.merged)?,
         })
     }
 

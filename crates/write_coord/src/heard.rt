@@ -47,7 +47,7 @@ impl Heard {
         &self.nodes[..self.count]
     }
 
-    fn copy(&self) -> Heard
+    pub(crate) fn copy(&self) -> Heard
         ensures { result ≡ self.now }
     {
         Heard {

@@ -141,6 +141,18 @@ impl WriteCoord {
         })
     }
 
+    /// A copy of the write, which shares no memory with it.
+    pub fn copy(&self, alloc: Global) -> Result<WriteCoord, AllocError>
+        ensures { IfOk result (λ write. write ≡ self.now) }
+    {
+        Ok(WriteCoord {
+            level: self.level,
+            partition: self.partition.copy(alloc)?,
+            heard: self.heard.copy(),
+            answered: self.answered,
+        })
+    }
+
     /// The write behind a node's acknowledgement.
     fn tally(&self, setting: &Setting, from: NodeId) -> Tally
         ensures { IsTally setting.now from self.now result }
