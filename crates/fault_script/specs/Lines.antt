@@ -338,15 +338,18 @@ node_event nodes word words =
     else (if bytes_eq word (codes "merge") then result_map event.Merge (node_line nodes words)
     else Err fault.Line))))))
 
-abbrev pub event_line : ℕ → List (List ℕ) → Result ScriptEvent Fault
-event_line nodes [] = Err fault.Line
-event_line nodes (word ∷ words) =
+abbrev pub word_line : ℕ → List ℕ → List (List ℕ) → Result ScriptEvent Fault
+word_line nodes word words =
     if bytes_eq word (codes "put") then put_line nodes words
     else (if bytes_eq word (codes "get") then get_line nodes words
     else (if bytes_eq word (codes "deliver") then result_map event.Deliver (message_line nodes words)
     else (if bytes_eq word (codes "drop") then result_map event.Drop (message_line nodes words)
     else (if bytes_eq word (codes "settle") then settle_line words
     else node_event nodes word words))))
+
+abbrev pub event_line : ℕ → List (List ℕ) → Result ScriptEvent Fault
+event_line nodes [] = Err fault.Line
+event_line nodes (word ∷ words) = word_line nodes word words
 
 -- ---- events with a statement
 

@@ -2,7 +2,7 @@
 
 ghost use Rattle.std.specs.Prelude.{◌≡◌, ◌≤◌, ◌<◌, ◌&&◌, ◌∷◌, [], IfOk, codes, length};
 ghost use Rattle.std.specs.Str.{bytes_eq};
-ghost use Rattle.fault_script.specs.Lines.{is_number as is_number_word, is_signed_number as is_signed_word, put_line as put_line_of, get_line as get_line_of, message_line as message_line_of, settle_line as settle_line_of, event_line as event_line_of, cql_line as cql_line_of, event_at as event_at_of};
+ghost use Rattle.fault_script.specs.Lines.{is_number as is_number_word, is_signed_number as is_signed_word, put_line as put_line_of, get_line as get_line_of, message_line as message_line_of, settle_line as settle_line_of, word_line as word_line_of, event_line as event_line_of, cql_line as cql_line_of, event_at as event_at_of};
 ghost use Rattle.fault_script.specs.Lines.{named_node as named_node_of, named_pair as named_pair_of, node_line as node_line_of, pair_line as pair_line_of, clock_line as clock_line_of, crash_line as crash_line_of, stop_line as stop_line_of, fail_line as fail_line_of, node_event as node_event_of};
 ghost use Rattle.fault_script.specs.Words.{texts_of};
 ghost use Rattle.fault_script.specs.Reads.{LineGives};
@@ -251,22 +251,31 @@ fn node_event(nodes: u8, word: &str, words: &[&str]) -> Result<ScriptEvent, Faul
     }
 }
 
+/// What a line does that begins with this word, at so many nodes.
+fn word_line(alloc: Global, nodes: u8, word: &str, words: &[&str]) -> Result<ScriptEvent, LineError>
+    requires some { 1 ≤ nodes }
+    requires few { nodes ≤ 7 }
+    ensures { LineGives result (word_line_of nodes word.now (texts_of words.now)) }
+{
+    match word {
+        "put" => put_line(alloc, nodes, words),
+        "get" => get_line(alloc, nodes, words),
+        "deliver" => Ok(ScriptEvent::Deliver(message_place(nodes, words)?)),
+        "drop" => Ok(ScriptEvent::Drop(message_place(nodes, words)?)),
+        "settle" => Ok(settle_line(words)?),
+        _ => Ok(node_event(nodes, word, words)?),
+    }
+}
+
 /// What a line of these words does, at so many nodes.
 fn event_line(alloc: Global, nodes: u8, words: &[&str]) -> Result<ScriptEvent, LineError>
     requires some { 1 ≤ nodes }
     requires few { nodes ≤ 7 }
     ensures { LineGives result (event_line_of nodes (texts_of words.now)) }
 {
-    let [word, words @ ..] = words else {
-        return Err(LineError::Fault(Fault::Line));
-    };
-    match *word {
-        "put" => put_line(alloc, nodes, words),
-        "get" => get_line(alloc, nodes, words),
-        "deliver" => Ok(ScriptEvent::Deliver(message_place(nodes, words)?)),
-        "drop" => Ok(ScriptEvent::Drop(message_place(nodes, words)?)),
-        "settle" => Ok(settle_line(words)?),
-        word => Ok(node_event(nodes, word, words)?),
+    match words {
+        [word, words @ ..] => word_line(alloc, nodes, word, words),
+        [] => Err(LineError::Fault(Fault::Line)),
     }
 }
 

@@ -24,8 +24,8 @@ mod statements;
 
 pub use error::ParseError;
 pub use laws::{
-    events_are_at_nodes, one_reading, scripts_have_a_ring, scripts_have_their_schema,
-    statements_are_read,
+    events_are_at_nodes, one_reading, scripts_have_a_ring, scripts_have_an_expiry,
+    scripts_have_their_schema, statements_are_read,
 };
 pub use reader::{LONGEST_SCRIPT, MOST_LINES, parse};
 pub use script::{

@@ -91,12 +91,7 @@ fn push_settle(alloc: Global, out: &mut Vec<u8>, count: u32) -> Result<(), Alloc
 }
 
 /// A line that names a node.
-fn push_named(
-    alloc: Global,
-    out: &mut Vec<u8>,
-    word: &str,
-    node: NodeId,
-) -> Result<(), AllocError>
+fn push_named(alloc: Global, out: &mut Vec<u8>, word: &str, node: NodeId) -> Result<(), AllocError>
     ensures { OnOk result (out.new.items ≡ out.old.items ++ number_line word.now node) }
 {
     out.extend_from_slice(word.as_bytes())?;
