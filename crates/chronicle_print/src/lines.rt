@@ -212,11 +212,7 @@ fn push_stop(alloc: Global, out: &mut Vec<u8>, node: u64) -> Result<(), AllocErr
 }
 
 /// The line of a node that stopped.
-pub(crate) fn push_stopped(
-    alloc: Global,
-    out: &mut Vec<u8>,
-    node: NodeId,
-) -> Result<(), AllocError>
+pub(crate) fn push_stopped(alloc: Global, out: &mut Vec<u8>, node: NodeId) -> Result<(), AllocError>
     ensures { OnOk result (out.new.items ≡ out.old.items ++ stopped_line node) }
 {
     let node = u64::from(node.number());

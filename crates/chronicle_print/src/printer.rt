@@ -1,16 +1,25 @@
 //! Answers in print, with the numbers of their requests.
 
-ghost use Rattle.std.specs.Prelude.{◌≡◌, ◌<◌, ◌^◌, OnOk, IfOk, reverse};
+ghost use Rattle.std.specs.Prelude.{◌≡◌, OnOk, IfOk, option_copied, reverse};
 ghost use Rattle.chronicle_print.specs.Printed.{IsInPrint};
+ghost use Rattle.chronicle_print.specs.Printing.{joined, entry_at as entry_at_of};
 
 use crate::lines::{push_acked, push_refused, push_stopped, push_tables, push_used};
 use crate::rows::push_rows;
 use changes::ShownRow;
 use cs_base::{NodeId, ReqId, Text};
-use peer_messages::{Entry, Refusal};
+use peer_messages::{Entries, Entry, Refusal};
 use schema_book::Table;
 use std::alloc::{AllocError, Global};
 use std::collections::BTreeMap;
+
+/// Where an entry stands in a chronicle that comes in pieces: the number of its piece, and its own number in there, both
+/// from 0 on.
+#[derive(Clone, Copy, Debug, PartialEq, Eq)]
+struct Place {
+    piece: usize,
+    index: usize,
+}
 
 /// What the entries so far made: how many requests came, the number of the last request of each id, the place of the entry
 /// with which the last read of each id began, and the text.
@@ -18,15 +27,24 @@ use std::collections::BTreeMap;
 struct Printer {
     asked: u64,
     numbers: BTreeMap<ReqId, u64>,
-    places: BTreeMap<ReqId, usize>,
+    places: BTreeMap<ReqId, Place>,
     out: Vec<u8>,
 }
 
+fn entry_at(pieces: &[Entries], place: Place) -> Option<&Entry>
+    ensures { option_copied result ≡ entry_at_of pieces.now place }
+{
+    match pieces.get(place.piece) {
+        Some(piece) => piece.as_slice().get(place.index),
+        None => None,
+    }
+}
+
 impl Printer {
-    ghost use Rattle.std.specs.Prelude.{ℕ, List};
-    ghost use Rattle.std.specs.Option.{option_copied};
+    ghost use Rattle.std.specs.Prelude.{ℕ, List, Some, ◌++◌, slice_get};
+    ghost use Rattle.peer_messages.specs.declared.chronicle.Entry.{Entry as entry_value};
     ghost use Rattle.chronicle_print.specs.Printed.{acked_line, used_line, refused_line, tables_line, stopped_line, AreRows};
-    ghost use Rattle.chronicle_print.specs.Printing.{number_in, place_in, start_at, shape_in, IsFresh, Counts, Begins, Adds, Takes};
+    ghost use Rattle.chronicle_print.specs.Printing.{number_in, place_in, start_at, shape_in, IsFresh, Counts, Begins, Adds, Takes, HasPrinted};
 
     fn new(alloc: Global) -> Printer
         ensures { IsFresh result }
@@ -47,27 +65,27 @@ impl Printer {
     }
 
     /// The entry with which the last read of this id began.
-    fn start_of<'a>(&self, entries: &'a [Entry], request: &ReqId) -> Option<&'a Entry>
-        ensures { option_copied result ≡ start_at entries.now (place_in self.now.places request.now) }
+    fn start_of<'a>(&self, pieces: &'a [Entries], request: &ReqId) -> Option<&'a Entry>
+        ensures { option_copied result ≡ start_at pieces.now (place_in self.now.places request.now) }
     {
         match self.places.get(request) {
-            Some(place) => entries.get(*place),
+            Some(place) => entry_at(pieces, *place),
             None => None,
         }
     }
 
+    /// Counts a request. For more of them than a number of 64 bits tells there is no memory.
     fn ask(&mut self, request: Option<ReqId>) -> Result<(), AllocError>
-        requires { self.old.asked < 2 ^ 63 }
         ensures { OnOk result (Counts request self.old self.new) }
     {
-        self.asked += 1;
+        self.asked = self.asked.checked_add(1).ok_or(AllocError)?;
         if let Some(id) = request {
             self.numbers.insert(id, self.asked)?;
         }
         Ok(())
     }
 
-    fn begin(&mut self, request: ReqId, place: usize) -> Result<(), AllocError>
+    fn begin(&mut self, request: ReqId, place: Place) -> Result<(), AllocError>
         ensures { OnOk result (Begins request place self.old self.new) }
     {
         self.places.insert(request, place)?;
@@ -92,14 +110,14 @@ impl Printer {
         &mut self,
         alloc: Global,
         tables: &[Table],
-        entries: &[Entry],
+        pieces: &[Entries],
         request: &ReqId,
         rows: &[ShownRow],
     ) -> Result<(), AllocError>
-        ensures { OnOk result ((lines : List ℕ) × AreRows tables.now (shape_in entries.now self.old.places request.now) (number_in self.old.numbers request.now) rows.now lines × Adds lines self.old self.new) }
+        ensures { OnOk result ((lines : List ℕ) × AreRows tables.now (shape_in pieces.now self.old.places request.now) (number_in self.old.numbers request.now) rows.now lines × Adds lines self.old self.new) }
     {
         let number = self.number_of(request);
-        let start = self.start_of(entries, request);
+        let start = self.start_of(pieces, request);
         push_rows(alloc, &mut self.out, tables, number, start, rows)
     }
 
@@ -125,12 +143,11 @@ impl Printer {
         &mut self,
         alloc: Global,
         tables: &[Table],
-        entries: &[Entry],
-        place: usize,
+        pieces: &[Entries],
+        place: Place,
         entry: &Entry,
     ) -> Result<(), AllocError>
-        requires { self.old.asked < 2 ^ 63 }
-        ensures { OnOk result (Takes tables.now entries.now place self.old entry.now self.new) }
+        ensures { OnOk result (Takes tables.now pieces.now place self.old entry.now self.new) }
     {
         match entry {
             Entry::Asked(request) => self.ask(*request),
@@ -141,7 +158,7 @@ impl Printer {
             Entry::Used(request, keyspace) => self.name(alloc, request, keyspace),
             Entry::Began(request, _, _, _) => self.begin(*request, place),
             Entry::Rows(request, rows, _, _) => {
-                self.show(alloc, tables, entries, request, rows.as_slice())
+                self.show(alloc, tables, pieces, request, rows.as_slice())
             }
             // the request that came last
             Entry::Turned(_, refusal) => self.refuse(alloc, self.asked, *refusal),
@@ -150,10 +167,34 @@ impl Printer {
             Entry::Submitted(_, _) | Entry::Time(_, _) | Entry::Marks(_, _) => Ok(()),
         }
     }
+
+    /// Takes the entries of the piece of this number, one after another.
+    fn take_piece(
+        &mut self,
+        alloc: Global,
+        tables: &[Table],
+        pieces: &[Entries],
+        number: usize,
+        entries: &[Entry],
+    ) -> Result<(), AllocError>
+        requires { slice_get pieces.now number ≡ Some entries.now }
+        ensures { (earlier : List entry_value) → HasPrinted tables.now pieces.now earlier self.old → OnOk result (HasPrinted tables.now pieces.now (reverse entries.now ++ earlier) self.new) }
+    {
+        let mut index = 0;
+        for entry in entries {
+            let place = Place {
+                piece: number,
+                index,
+            };
+            self.take(alloc, tables, pieces, place, entry)?;
+            index += 1;
+        }
+        Ok(())
+    }
 }
 
-/// Prints the answers of a chronicle, whose oldest entry comes first, for these tables by number. An `Err` is for want of
-/// memory.
+/// Prints the answers of a chronicle, which comes in pieces with the oldest entry first, for these tables by number. An
+/// `Err` is for want of memory.
 ///
 /// Each answer is a line: the number of its request, and `ok`, `rows N`, `keyspace NAME`,
 /// `unavailable required A alive B`, `write-timeout received A blockfor B SIMPLE`,
@@ -169,15 +210,15 @@ impl Printer {
 pub fn print_chronicle(
     alloc: Global,
     tables: &[Table],
-    entries: &[Entry],
+    pieces: &[Entries],
 ) -> Result<Vec<u8>, AllocError>
-    ensures { IfOk result (λ text. IsInPrint tables.now (reverse entries.now) text.items) }
+    ensures { IfOk result (λ text. IsInPrint tables.now (reverse (joined pieces.now)) text.items) }
 {
     let mut printer = Printer::new(alloc);
-    let mut place = 0;
-    for entry in entries {
-        printer.take(alloc, tables, entries, place, entry)?;
-        place += 1;
+    let mut number = 0;
+    for piece in pieces {
+        printer.take_piece(alloc, tables, pieces, number, piece.as_slice())?;
+        number += 1;
     }
     Ok(printer.out)
 }

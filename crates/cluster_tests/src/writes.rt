@@ -74,7 +74,10 @@ fn is_answered_by(turn: &Move, nodes: &[u8]) -> bool {
     let heard = heard.as_slice();
     !turn.ended
         && heard.len() == nodes.len()
-        && heard.iter().zip(nodes).all(|(node, number)| node.number() == *number)
+        && heard
+            .iter()
+            .zip(nodes)
+            .all(|(node, number)| node.number() == *number)
 }
 
 /// Whether a write goes to just these nodes, in this order.
