@@ -21,6 +21,8 @@ use Rattle.fault_script.specs.declared.script.Script.{Script}
 use Rattle.fault_script.specs.declared.script.ScriptEvent.{ScriptEvent}
 use Rattle.cluster_program.specs.Requests.{IsEventOf, setting_of}
 use Rattle.cluster_program.specs.Runs.{newest, keyspace_after, Plays, IsFresh, IsRunInPrint}
+use Rattle.cluster_program.specs.Stops.{StopsAreNamed}
+use Rattle.cluster_program.proofs.StopLaws.{stops_are_named}
 
 -- ---- one event more
 
@@ -151,6 +153,7 @@ in_print script text tables c before after es setting fresh events same plays re
       fresh = subst (λ (d : Setting). IsFresh d before) setting fresh;
       plays = subst (λ (xs : List ScriptEvent). Plays script.schema None before xs after) events plays;
       reached = reached;
+      named = subst (λ (xs : List ScriptEvent). StopsAreNamed xs after.sites) events (stops_are_named script.schema es before after before.first fresh.sites plays);
       right = subst (λ (d : Setting). ReadRight d after.chronicle) (same_setting ∙ setting) (right of_setting);
       print = subst (λ (ts : List Table). IsInPrint ts after.chronicle text) same print;
     }

@@ -16,6 +16,7 @@ use Rattle.chronicle_print.specs.Printed.{IsInPrint}
 use Rattle.fault_script.specs.declared.script.Script.{Script}
 use Rattle.fault_script.specs.declared.script.ScriptEvent.{ScriptEvent}
 use Rattle.cluster_program.specs.Requests.{IsEventOf, setting_of}
+use Rattle.cluster_program.specs.Stops.{StopsAreNamed}
 
 abbrev pub named_by : Entry → Option (List ℕ) → Option (List ℕ)
 named_by (Used request name) keyspace = Some name
@@ -59,12 +60,13 @@ pub record IsFresh (c : Setting) (v : ClusterState) : Type 0 where
   pub chronicle : v.chronicle ≡ []
 
 -- The text is the printed chronicle of a run of fresh nodes with just the script's events, in which each answered read is
--- right
+-- right, and each node runs on that no line stops
 pub record IsRunInPrint (script : Script) (text : List ℕ) : Type 0 where
   pub before : ClusterState
   pub after : ClusterState
   pub fresh : IsFresh (setting_of script) before
   pub plays : Plays script.schema None before script.events after
   pub reached : IsReached after
+  pub named : StopsAreNamed script.events after.sites
   pub right : ReadRight (setting_of script) after.chronicle
   pub print : IsInPrint script.schema.tables after.chronicle text
