@@ -75,7 +75,7 @@ impl Reply {
 fn copy_replies(alloc: Global, replies: &[Reply]) -> Result<Vec<Reply>, AllocError>
     ensures { IfOk result (λ copies. copies.items ≡ replies.now) }
 {
-    let mut copies = Vec::new(alloc);
+    let mut copies = Vec::with_capacity(alloc, replies.len())?;
     for reply in replies {
         copies.push(reply.copy(alloc)?)?;
     }
