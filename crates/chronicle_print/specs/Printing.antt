@@ -1,5 +1,5 @@
 -- What a printer does with the entries of a chronicle, which comes in pieces.
-use Rattle.std.specs.Prelude.{◌≡◌, ℕ, ◌+◌, if◌then◌else◌, Option, Some, None, List, [], ◌++◌, flat_map, slice_get}
+use Rattle.std.specs.Prelude.{◌≡◌, ℕ, ◌+◌, if◌then◌else◌, Option, Some, None, List, [], ◌++◌, slice_get}
 use Rattle.std.specs.Option.{unwrap_or}
 use Rattle.std.specs.BTreeMap.{BTreeMap, get}
 use Rattle.cs_base.specs.declared.ids.ReqId.{ReqId}
@@ -12,10 +12,6 @@ use Rattle.peer_messages.specs.declared.chronicle.Entry.TheVariants.{Asked, Subm
 use Rattle.chronicle_print.specs.Printed.{asked_count, number_of, shape_of, acked_line, used_line, refused_line, tables_line, stopped_line, AreRows, IsInPrint}
 use Rattle.chronicle_print.specs.declared.printer.Place.{Place}
 use Rattle.chronicle_print.specs.declared.printer.Printer.{Printer}
-
--- the entries of the pieces, the oldest first
-abbrev pub joined : List (List Entry) → List Entry
-joined pieces = flat_map (λ (piece : List Entry). piece) pieces
 
 -- the number under which the map has a request, or 0
 abbrev pub number_in : BTreeMap ReqId ℕ → ReqId → ℕ

@@ -1,8 +1,7 @@
 //! Answers in print, with the numbers of their requests.
 
 ghost use Rattle.std.specs.Prelude.{◌≡◌, OnOk, IfOk, option_copied, reverse};
-ghost use Rattle.chronicle_print.specs.Printed.{IsInPrint};
-ghost use Rattle.chronicle_print.specs.Printing.{joined, entry_at as entry_at_of};
+ghost use Rattle.chronicle_print.specs.Printed.{IsInPrint, joined};
 
 use crate::lines::{push_acked, push_refused, push_stopped, push_tables, push_used};
 use crate::rows::push_rows;
@@ -31,12 +30,17 @@ struct Printer {
     out: Vec<u8>,
 }
 
-fn entry_at(pieces: &[Entries], place: Place) -> Option<&Entry>
-    ensures { option_copied result ≡ entry_at_of pieces.now place }
-{
-    match pieces.get(place.piece) {
-        Some(piece) => piece.as_slice().get(place.index),
-        None => None,
+impl Place {
+    ghost use Rattle.chronicle_print.specs.Printing.{entry_at};
+
+    /// The entry at this place.
+    fn entry(self, pieces: &[Entries]) -> Option<&Entry>
+        ensures { option_copied result ≡ entry_at pieces.now self }
+    {
+        match pieces.get(self.piece) {
+            Some(piece) => piece.as_slice().get(self.index),
+            None => None,
+        }
     }
 }
 
@@ -69,7 +73,7 @@ impl Printer {
         ensures { option_copied result ≡ start_at pieces.now (place_in self.now.places request.now) }
     {
         match self.places.get(request) {
-            Some(place) => entry_at(pieces, *place),
+            Some(place) => place.entry(pieces),
             None => None,
         }
     }
@@ -78,7 +82,10 @@ impl Printer {
     fn ask(&mut self, request: Option<ReqId>) -> Result<(), AllocError>
         ensures { OnOk result (Counts request self.old self.new) }
     {
-        self.asked = self.asked.checked_add(1).ok_or(AllocError)?;
+        let Some(asked) = self.asked.checked_add(1) else {
+            return Err(AllocError);
+        };
+        self.asked = asked;
         if let Some(id) = request {
             self.numbers.insert(id, self.asked)?;
         }
@@ -178,7 +185,7 @@ impl Printer {
         entries: &[Entry],
     ) -> Result<(), AllocError>
         requires { slice_get pieces.now number ≡ Some entries.now }
-        ensures { (earlier : List entry_value) → HasPrinted tables.now pieces.now earlier self.old → OnOk result (HasPrinted tables.now pieces.now (reverse entries.now ++ earlier) self.new) }
+        ensures { OnOk result ((earlier : List entry_value) → HasPrinted tables.now pieces.now earlier self.old → HasPrinted tables.now pieces.now (reverse entries.now ++ earlier) self.new) }
     {
         let mut index = 0;
         for entry in entries {

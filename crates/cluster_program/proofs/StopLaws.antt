@@ -28,8 +28,8 @@ use Rattle.cluster_program.specs.Stops.{names_stop, IsWell, IsWellAt, StopsAreNa
 put : (sites : List Site) (j : ℕ) (site : Site) (k : ℕ) → (k ≡ j → IsWell site) → IsWellAt sites k → IsWellAt (slice_set sites j site) k
 put sites j site k own well at there =
     elim (get_set sites j site k at there) [
-    | inl (here, is) ↦ subst IsWell (sym is) (own here)
-    | inr (other, before) ↦ well at before
+      | inl (here, is) ↦ subst IsWell (sym is) (own here)
+      | inr (other, before) ↦ well at before
     ]
 
 -- what the site at node j was, where that is node k

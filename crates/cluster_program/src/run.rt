@@ -2,7 +2,7 @@
 
 ghost use Rattle.std.specs.Prelude.{◌≡◌, ◌≤◌, None, All, length, IfOk, OnOk, IsTrue, option_copied, reverse};
 ghost use Rattle.fault_script.specs.Script.{IsSaid};
-ghost use Rattle.chronicle_print.specs.Printing.{joined};
+ghost use Rattle.chronicle_print.specs.Printed.{joined};
 ghost use Rattle.peer_messages.specs.declared.setting.Setting.{Setting as setting_value};
 ghost use Rattle.cluster_program.specs.Runs.{newest as newest_of, keyspace_after as keyspace_after_entries, IsFormatted, IsFresh, IsRunInPrint, Plays};
 

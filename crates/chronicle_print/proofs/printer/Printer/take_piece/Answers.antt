@@ -1,4 +1,5 @@
 use Rattle.std.proofs.Common.{◌≡◌, ◌<◌, ◌++◌, length, sym, subst, ap, ◌∙◌, take, reverse, List, arith, refl}
+use Rattle.std.proofs.lemmas.List.{take_all}
 use Rattle.std.proofs.lemmas.Option.{slice_get_read}
 use Rattle.std.specs.Prelude.{slice_get, Option, Some}
 use Rattle.peer_messages.specs.declared.chronicle.Entry.{Entry}
@@ -30,3 +31,8 @@ loop-entry-preserved c =
           (has_printed_on tables pieces place (reverse (take index entries) ++ earlier) item c.loop-entry.self c.take.new.self there c.in_ok-take.ensures (inv.printed earlier h));
       index = let same = inv.index in omega (arith, same);
     }
+
+pub returns : goal.returns
+returns c = λ earlier h.
+    subst (λ (es : List Entry). HasPrinted c.args.tables.now c.args.pieces.now (reverse es ++ earlier) c.loop-entry.self) (take_all c.loop-entry.entry-index c.args.entries.now c.loop-entry-test.false)
+    (c.loop-entry.invariant.printed earlier h)
