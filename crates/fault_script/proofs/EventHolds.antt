@@ -9,7 +9,7 @@ use Rattle.fault_script.specs.declared.script.ScriptEvent.TheVariants as event
 use Rattle.cs_store.specs.declared.mem_file.Outcome.{Outcome}
 use Rattle.fault_script.specs.declared.script.Fault.{Fault}
 use Rattle.fault_script.specs.declared.script.Fault.TheVariants as fault
-use Rattle.fault_script.specs.Lines.{put_line, put_of, get_line, get_of, message_line, place_of, settle_line, named_node, pair_of, named_pair, node_line, pair_line, clock_at, clock_line, crash_of, crash_line, stop_of, stop_line, fail_at, fail_line, node_event, outcome_of, word_line, event_line, cql_of, cql_behind, cql_from, event_of_words, event_of, event_at, words_of, behind, first_word, node_of, level_of, long_of, number_within, number_value, is_number, is_signed_number}
+use Rattle.fault_script.specs.Lines.{put_line, put_of, get_line, get_of, message_line, place_of, settle_line, named_node, pair_of, named_pair, node_line, pair_line, clock_at, crash_of, crash_line, stop_of, stop_line, fail_at, node_event, outcome_of, word_line, event_line, cql_of, cql_behind, cql_from, event_of_words, event_of, event_at, words_of, behind, first_word, node_of, level_of, long_of, number_within, number_value, is_number, is_signed_number}
 use Rattle.fault_script.specs.Laws.{IsAtNodes, IsBetweenNodes}
 use Rattle.fault_script.proofs.Holding.{either_holds, some_where, understood_where, result_map_holds}
 
