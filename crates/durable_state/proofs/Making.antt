@@ -245,11 +245,7 @@ arrived content p changes time a s k = elim (from_after content p changes time a
       )
 ]
 
-<<<<<<< HEAD
-data_made : (time : ℕ) (m : Mutation) (content : List Stored) → (content' : List Stored) × TakesIn (changes_of content) m.partition m.changes (changes_of content') × ArriveAt time content content'
-=======
 pub data_made : (time : ℕ) (m : Mutation) (content : List Stored) → (content' : List Stored) × TakesIn (changes_of content) m.partition m.changes (changes_of content') × ArriveAt time content content'
->>>>>>> 3aceed56e00068acc3f198b0aed31ed70f893530
 data_made time m content =
     let a = parts_of content m.partition m.changes in (
       after_of content m.partition m.changes time a,

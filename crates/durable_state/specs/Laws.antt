@@ -20,8 +20,6 @@ EntriesFollow = (xs ys : List LogItem) (a c : Durable) → Commits (xs ++ ys) a 
 abbrev pub EachEntryMakesAState : Type 0
 EachEntryMakesAState = (items : List LogItem) (d : Durable) → (d' : Durable) × Commits items d d'
 
-<<<<<<< HEAD
-=======
 abbrev pub data_item : ℕ → Mutation → LogItem
 data_item time m = Data time m
 
@@ -32,7 +30,6 @@ DataIsTakenTogether =
     → TakesAll (changes_of d.content) (m ∷ ms) (changes_of d'.content) → ArriveAt time d.content d'.content → d' ≡ record d { content = d'.content }
     → Commits (map (data_item time) (m ∷ ms)) d d'
 
->>>>>>> 3aceed56e00068acc3f198b0aed31ed70f893530
 abbrev pub KeptIsItself : Type 0
 KeptIsItself = (d : Durable) → IsSameKept d d
 

@@ -1,10 +1,6 @@
 //! The laws of what is kept.
 
-<<<<<<< HEAD
-ghost use Rattle.durable_state.specs.Laws.{EachEntryMakesAState, EntriesFollow, KeptIsItself, KeptIsMutual, KeptIsPassedOn, WhatIsKeptIsOne};
-=======
 ghost use Rattle.durable_state.specs.Laws.{DataIsTakenTogether, EachEntryMakesAState, EntriesFollow, KeptIsItself, KeptIsMutual, KeptIsPassedOn, WhatIsKeptIsOne};
->>>>>>> 3aceed56e00068acc3f198b0aed31ed70f893530
 
 /// The same items make of the same state the same state, but for its order, and each change goes on to have one arrival.
 pub fn what_is_kept_is_one()
