@@ -1,7 +1,0 @@
-//! Tests of coordinators.
-#![tactic(auto)]
-
-#[cfg(test)]
-mod reads;
-#[cfg(test)]
-mod writes;
