@@ -32,6 +32,7 @@ lines = (refused_line 4 (Unavailable 2 1), acked_line 3, ([], refused_line 4 (Un
 
 -- a node stopped at the last request, is turned away at the next one, and has two tables once it runs again
 stops : IsInPrint [] (Tables 1 2 ∷ Marks 1 (0 ∷ []) ∷ Turned 1 Down ∷ Asked None ∷ Stopped 1 ∷ asked) (stopped_line 1 ++ refused_line 5 Down ++ tables_line 1 2)
+unfolding digits
 stops =
     let stopped : IsInPrint [] (Stopped 1 ∷ asked) (stopped_line 1) = ([], stopped_line 1, nothing, refl, refl) in
     let came : IsInPrint [] (Asked None ∷ Stopped 1 ∷ asked) (stopped_line 1) = (stopped_line 1, [], stopped, refl, refl) in
