@@ -1,5 +1,6 @@
 -- The bytes of keys of one column and of several.
 use Rattle.std.proofs.Common.{◌≡◌, ◌&&◌, ◌∷◌, [], Bool, true, false, cond, not, List, refl, flat_map}
+use Rattle.cql_values.specs.declared.value.CqlValue.{CqlValue}
 use Rattle.schema_book.specs.declared.table.ColumnDef.{ColumnDef}
 use Rattle.key_restrictions.specs.declared.restriction.Restriction.{Restriction}
 use Rattle.key_restrictions.specs.Places.{is_partition, is_partition_at, fixing}

@@ -25,6 +25,7 @@ use Rattle.prepared_statement.specs.declared.change.Guard.{Guard}
 use Rattle.prepared_statement.specs.declared.change.Read.{Read}
 use Rattle.prepared_statement.specs.declared.prepared.Prepared.{Prepared}
 use Rattle.prepared_statement.specs.declared.prepared.Prepared.TheVariants as prepared
+use Rattle.prepared_statement.specs.declared.prepared.UseKeyspace.{UseKeyspace}
 use Rattle.prepared_statement.specs.declared.slot.Slot.{Slot}
 
 -- ---- a table that is not there has no columns
@@ -88,10 +89,13 @@ batch_of b used x = record { slots = stamp_slots x.stamp; changes = map (change_
 
 -- ---- statements
 
+abbrev pub use_in : Book → List ℕ → UseKeyspace
+use_in b name = record { name = name; is_there = is_some (keyspace_at b name) }
+
 abbrev pub outline_of : Book → Option (List ℕ) → Statement → Prepared
 outline_of b used (statement.CreateKeyspace c) = prepared.Create
 outline_of b used (statement.CreateTable c) = prepared.Create
-outline_of b used (statement.Use u) = prepared.Use (record { name = u.keyspace; is_there = is_some (keyspace_at b u.keyspace) })
+outline_of b used (statement.Use u) = prepared.Use (use_in b u.keyspace)
 outline_of b used (statement.Insert i) = prepared.Change (change_of b used (modifications.Insert i))
 outline_of b used (statement.Update u) = prepared.Change (change_of b used (modifications.Update u))
 outline_of b used (statement.Delete d) = prepared.Change (change_of b used (modifications.Delete d))

@@ -1,6 +1,6 @@
 -- The slots of a statement, in the order of its text: the columns and terms that it gives values for (CQL reference,
 -- "INSERT", "UPDATE", "DELETE", "SELECT"; native_protocol_v4.spec, section 4.2.5.4).
-use Rattle.std.specs.Prelude.{ℕ, Bool, true, false, List, [], ◌∷◌, ◌++◌, Option, Some, None, Result, Ok, Err, if◌then◌else◌, codes, drop, length, map}
+use Rattle.std.specs.Prelude.{ℕ, Bool, true, false, List, [], ◌∷◌, ◌++◌, Option, Some, None, Result, Ok, Err, if◌then◌else◌, codes, map}
 use Rattle.cql_statement.specs.declared.modification.Assignment.{Assignment}
 use Rattle.cql_statement.specs.declared.modification.Condition.{Condition}
 use Rattle.cql_statement.specs.declared.modification.Condition.TheVariants as conditions
@@ -105,19 +105,11 @@ unfilled_slot columns name = null_slot name (type_at columns (place_of columns n
 abbrev pub unplaced_slot : Term → Slot
 unplaced_slot term = slot_of [] types.Blob roles.Unplaced term
 
--- a value with the column of its place
-abbrev pub paired_slot : List ColumnDef → Option (List ℕ) → Term → Slot
-paired_slot columns None term = unplaced_slot term
-paired_slot columns (Some name) term = entry_slot columns name term
-
-abbrev pub paired_slots : List ColumnDef → List (List ℕ) → List Term → List Slot
-paired_slots columns names [] = []
-paired_slots columns [] (term ∷ terms) = unplaced_slot term ∷ paired_slots columns [] terms
-paired_slots columns (name ∷ names) (term ∷ terms) = entry_slot columns name term ∷ paired_slots columns names terms
-
--- behind the values the columns that have none
+-- the values with their columns, and behind these what is left of the longer list
 abbrev pub entry_slots : List ColumnDef → List (List ℕ) → List Term → List Slot
-entry_slots columns names terms = paired_slots columns names terms ++ map (unfilled_slot columns) (drop (length terms) names)
+entry_slots columns names [] = map (unfilled_slot columns) names
+entry_slots columns [] (term ∷ terms) = unplaced_slot term ∷ entry_slots columns [] terms
+entry_slots columns (name ∷ names) (term ∷ terms) = entry_slot columns name term ∷ entry_slots columns names terms
 
 -- ---- IF
 

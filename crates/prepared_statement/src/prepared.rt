@@ -1,9 +1,8 @@
 //! Statements with all done that needs no value.
 
-ghost use Rattle.std.specs.Prelude.{◌≡◌, IfOk, None, fold, is_some, map, option_copied};
-ghost use Rattle.schema_book.specs.Books.{keyspace_at};
+ghost use Rattle.std.specs.Prelude.{◌≡◌, IfOk, None, fold, map, option_copied};
 ghost use Rattle.prepared_statement.specs.Changing.{modification_in};
-ghost use Rattle.prepared_statement.specs.Prepared.{change_with, change_in, change_of, read_with, read_in, batch_of, outline_of, change_refusal as change_refusal_of, condition_fault as condition_fault_of, lower_change, empty_fault as empty_fault_of, batch_refusal as batch_refusal_of};
+ghost use Rattle.prepared_statement.specs.Prepared.{change_with, change_in, change_of, read_with, read_in, batch_of, use_in, outline_of, change_refusal as change_refusal_of, condition_fault as condition_fault_of, lower_change, empty_fault as empty_fault_of, batch_refusal as batch_refusal_of};
 ghost use Rattle.prepared_statement.specs.Slots.{slots_of as slots_of_modification, select_slots};
 ghost use Rattle.prepared_statement.specs.Structure.{keys_of as keys_of_slots, shown_places as shown_places_of, shown_of as shown_of_selection};
 
@@ -195,7 +194,7 @@ fn batch(
 }
 
 fn use_of(alloc: Global, schema: &Schema, statement: &Use) -> Result<UseKeyspace, AllocError>
-    ensures { IfOk result (λ named. named ≡ record { name = statement.now.keyspace; is_there = is_some (keyspace_at schema.now statement.now.keyspace) }) }
+    ensures { IfOk result (λ named. named ≡ use_in schema.now statement.now.keyspace) }
 {
     Ok(UseKeyspace {
         name: statement.keyspace.copy(alloc)?,

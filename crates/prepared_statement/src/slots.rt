@@ -1,8 +1,8 @@
 //! The slots of statements.
 
-ghost use Rattle.std.specs.Prelude.{◌≡◌, ◌++◌, IfOk, OnOk, drop, map, option_copied};
+ghost use Rattle.std.specs.Prelude.{◌≡◌, ◌++◌, IfOk, OnOk, map};
 ghost use Rattle.prepared_statement.specs.Changing.{modification_in};
-ghost use Rattle.prepared_statement.specs.Slots.{relation_role as relation_role_of, entry_role as entry_role_of, relation_slot as relation_slot_of, assignment_slot as assignment_slot_of, deleted_slot as deleted_slot_of, entry_slot as entry_slot_of, unfilled_slot as unfilled_slot_of, unplaced_slot as unplaced_slot_of, paired_slot as paired_slot_of, paired_slots, entry_slots, test_slot as test_slot_of, condition_slots, stamp_slots, limit_slots, insert_slots, update_slots, delete_slots, select_slots, slots_of as slots_of_modification};
+ghost use Rattle.prepared_statement.specs.Slots.{relation_role as relation_role_of, entry_role as entry_role_of, relation_slot as relation_slot_of, assignment_slot as assignment_slot_of, deleted_slot as deleted_slot_of, entry_slot as entry_slot_of, unfilled_slot as unfilled_slot_of, unplaced_slot as unplaced_slot_of, entry_slots, test_slot as test_slot_of, condition_slots, stamp_slots, limit_slots, insert_slots, update_slots, delete_slots, select_slots, slots_of as slots_of_modification};
 
 use crate::changing::Changing;
 use crate::constants::slot;
@@ -168,51 +168,7 @@ fn push_unfilled(
     Ok(())
 }
 
-/// A value with the column of its place.
-fn paired_slot(
-    alloc: Global,
-    columns: &ColumnDefs,
-    name: Option<&Text>,
-    term: &Term,
-) -> Result<Slot, AllocError>
-    ensures { IfOk result (λ slot. slot ≡ paired_slot_of columns.now (option_copied name.entry) term.now) }
-{
-    match name {
-        Some(name) => entry_slot(alloc, columns, name, term),
-        None => unplaced_slot(alloc, term),
-    }
-}
-
-/// The values of an INSERT with their columns, up to the last value.
-fn push_paired(
-    slots: &mut Slots,
-    alloc: Global,
-    columns: &ColumnDefs,
-    names: &[Text],
-    terms: &[Term],
-) -> Result<(), AllocError>
-    ensures { OnOk result (slots.new ≡ slots.old ++ paired_slots columns.now names.now terms.now) }
-{
-    let mut place = 0;
-    for term in terms {
-        slots.push(paired_slot(alloc, columns, names.get(place), term)?)?;
-        place += 1;
-    }
-    Ok(())
-}
-
-/// The names behind so many.
-fn behind(names: &[Text], count: usize) -> &[Text]
-    ensures { result.now ≡ drop count names.now }
-{
-    if count < names.len() {
-        &names[count..]
-    } else {
-        &[]
-    }
-}
-
-/// The values of an INSERT with their columns, and the columns that have none.
+/// The values of an INSERT with their columns, and behind these what is left of the longer list.
 fn push_entries(
     slots: &mut Slots,
     alloc: Global,
@@ -222,8 +178,17 @@ fn push_entries(
 ) -> Result<(), AllocError>
     ensures { OnOk result (slots.new ≡ slots.old ++ entry_slots columns.now names.now terms.now) }
 {
-    push_paired(slots, alloc, columns, names, terms)?;
-    push_unfilled(slots, alloc, columns, behind(names, terms.len()))
+    let mut left = names;
+    for term in terms {
+        match left {
+            [name, rest @ ..] => {
+                slots.push(entry_slot(alloc, columns, name, term)?)?;
+                left = rest;
+            }
+            [] => slots.push(unplaced_slot(alloc, term)?)?,
+        }
+    }
+    push_unfilled(slots, alloc, columns, left)
 }
 
 fn test_slot(alloc: Global, columns: &ColumnDefs, test: &Test) -> Result<Slot, AllocError>

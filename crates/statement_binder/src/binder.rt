@@ -83,7 +83,7 @@ fn refused(excess: Option<Fault>, fault: Fault) -> BindError
 
 /// What is wrong with the values for a statement that has no markers.
 fn idle_fault(alloc: Global, supply: Supply) -> Result<Option<Fault>, AllocError>
-    ensures { IfOk result (λ fault. fault ≡ idle_fault_of (left_for supply)) }
+    ensures { IfOk result (λ fault. fault ≡ idle_fault_of (left_for supply.entry)) }
 {
     let mut supply = supply;
     let filled = supply.fill(alloc, &[])?;
@@ -101,7 +101,7 @@ fn use_fault(named: &UseKeyspace) -> Option<Fault>
 }
 
 fn use_of(alloc: Global, named: &UseKeyspace, supply: Supply) -> Result<Plan, BindError>
-    ensures { Gives result (use_plan named.now (left_for supply)) }
+    ensures { Gives result (use_plan named.now (left_for supply.entry)) }
 {
     let fault = idle_fault(alloc, supply)?;
     match lower(use_fault(named), fault) {
@@ -111,7 +111,7 @@ fn use_of(alloc: Global, named: &UseKeyspace, supply: Supply) -> Result<Plan, Bi
 }
 
 fn create(alloc: Global, supply: Supply) -> Result<Plan, BindError>
-    ensures { Gives result (plan_of prepareds.Create (left_for supply) None) }
+    ensures { Gives result (plan_of prepareds.Create (left_for supply.entry) None) }
 {
     let fault = idle_fault(alloc, supply)?;
     Err(refused(fault, Fault::NotSupported(Feature::Create)))
@@ -124,7 +124,7 @@ fn meaning(
     supply: Supply,
     timestamp: Option<i64>,
 ) -> Result<Plan, BindError>
-    ensures { Gives result (plan_of prepared.now (left_for supply) timestamp) }
+    ensures { Gives result (plan_of prepared.now (left_for supply.entry) timestamp) }
 {
     match prepared {
         Prepared::Create => create(alloc, supply),

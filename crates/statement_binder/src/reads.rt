@@ -101,7 +101,7 @@ fn filled_plan(
 
 /// What a SELECT asks for.
 pub(crate) fn read(alloc: Global, read: &Read, supply: Supply) -> Result<Plan, BindError>
-    ensures { Gives result (read_plan read.now (left_for supply)) }
+    ensures { Gives result (read_plan read.now (left_for supply.entry)) }
 {
     let mut supply = supply;
     let filled = supply.fill(alloc, read.slots.as_slice())?;

@@ -69,7 +69,7 @@ pub(crate) fn change(
     change: &Change,
     supply: Supply,
 ) -> Result<Plan, BindError>
-    ensures { Gives result (change_plan timestamp change.now (left_for supply)) }
+    ensures { Gives result (change_plan timestamp change.now (left_for supply.entry)) }
 {
     let mut supply = supply;
     let filled = supply.fill(alloc, change.slots.as_slice())?;
@@ -222,7 +222,7 @@ pub(crate) fn batch(
     batch: &Batch,
     supply: Supply,
 ) -> Result<Plan, BindError>
-    ensures { Gives result (batch_plan timestamp batch.now (left_for supply)) }
+    ensures { Gives result (batch_plan timestamp batch.now (left_for supply.entry)) }
 {
     let mut supply = supply;
     let front = supply.fill_front(alloc, batch.slots.as_slice())?;
