@@ -6,7 +6,6 @@ use Rattle.cql_statement.specs.declared.term.TestOperator.{TestOperator}
 use Rattle.cql_statement.specs.declared.term.TestOperator.TheVariants as operators
 use Rattle.cql_values.specs.Protocol.{decoded, value_bytes}
 use Rattle.cql_values.specs.declared.value.CqlType.{CqlType}
-use Rattle.cql_values.specs.declared.value.CqlType.TheVariants as types
 use Rattle.cql_values.specs.declared.value.CqlValue.{CqlValue}
 use Rattle.condition_test.specs.Laws.{order_of_type}
 use Rattle.statement_plan.specs.Faults.{lower}
@@ -36,13 +35,6 @@ value_in ty (Some (Given bytes)) = result_ok (decoded ty bytes)
 -- its bytes as they are stored
 abbrev pub stored : CqlType → List ℕ → Option (List ℕ)
 stored ty bytes = option_map value_bytes (result_ok (decoded ty bytes))
-
--- the types whose values are stored as they are given
-abbrev pub IsWordType : CqlType → Type 0
-IsWordType types.Ascii = Unit {0}
-IsWordType types.Blob = Unit {0}
-IsWordType types.Text = Unit {0}
-IsWordType _ = ⊥
 
 -- a value or null, where one is set
 abbrev pub written : CqlType → Option Param → Option (Option (List ℕ))

@@ -3,8 +3,9 @@
 ghost use Rattle.std.specs.Prelude.{◌≡◌, IfOk, OnOk, option_copied};
 ghost use Rattle.std.specs.Result.{result_ok};
 ghost use Rattle.cql_values.specs.Protocol.{decoded as decoded_of};
+ghost use Rattle.cql_values.specs.declared.value.CqlType.TheVariants as types;
 ghost use Rattle.statement_values.specs.Sources.{left_in};
-ghost use Rattle.statement_binder.specs.Filled.{compare_of as compare_of_operator, value_in as value_in_of, stored as stored_of, written as written_of, timestamp_in as timestamp_in_of, limit_in as limit_in_of, with_key, with_cell, with_test, by_role, with_slot, given_to as given_to_slot, behind, left_after, unfilled, filled_of, IsWordType};
+ghost use Rattle.statement_binder.specs.Filled.{compare_of as compare_of_operator, value_in as value_in_of, stored as stored_of, written as written_of, timestamp_in as timestamp_in_of, limit_in as limit_in_of, with_key, with_cell, with_test, by_role, with_slot, given_to as given_to_slot, behind, left_after, unfilled, filled_of};
 
 use condition_test::order_of;
 use cql_statement::{RelationOperator, TestOperator};
@@ -70,12 +71,22 @@ fn stored_anew(alloc: Global, ty: CqlType, bytes: &[u8]) -> Result<Option<Bytes>
     }
 }
 
-/// A text or a blob as it is stored, in memory that is shared with it.
-fn stored_as_it_is(alloc: Global, ty: CqlType, bytes: &Bytes) -> Result<Option<Bytes>, AllocError>
-    requires { IsWordType ty }
-    ensures { IfOk result (λ word. word ≡ stored_of ty bytes.now) }
+/// A text of ASCII as it is stored, in memory that is shared with it.
+fn stored_ascii(alloc: Global, bytes: &Bytes) -> Result<Option<Bytes>, AllocError>
+    ensures { IfOk result (λ word. word ≡ stored_of types.Ascii bytes.now) }
 {
-    if fits(ty, bytes.as_slice()) {
+    if fits(CqlType::Ascii, bytes.as_slice()) {
+        Ok(Some(bytes.copy(alloc)?))
+    } else {
+        Ok(None)
+    }
+}
+
+/// A text as it is stored, in memory that is shared with it.
+fn stored_text(alloc: Global, bytes: &Bytes) -> Result<Option<Bytes>, AllocError>
+    ensures { IfOk result (λ word. word ≡ stored_of types.Text bytes.now) }
+{
+    if fits(CqlType::Text, bytes.as_slice()) {
         Ok(Some(bytes.copy(alloc)?))
     } else {
         Ok(None)
@@ -87,7 +98,9 @@ fn stored(alloc: Global, ty: CqlType, bytes: &Bytes) -> Result<Option<Bytes>, Al
     ensures { IfOk result (λ word. word ≡ stored_of ty bytes.now) }
 {
     match ty {
-        CqlType::Ascii | CqlType::Blob | CqlType::Text => stored_as_it_is(alloc, ty, bytes),
+        CqlType::Ascii => stored_ascii(alloc, bytes),
+        CqlType::Blob => Ok(Some(bytes.copy(alloc)?)),
+        CqlType::Text => stored_text(alloc, bytes),
         _ => stored_anew(alloc, ty, bytes.as_slice()),
     }
 }
