@@ -28,7 +28,10 @@ pub fn value_at<'a>(stands: &'a Stands, given: Option<&'a Param>) -> Option<&'a 
 fn is_ascii(bytes: &[u8]) -> bool
     ensures { result ≡ fits_of types.Ascii bytes.now }
 {
-    bytes.iter().position(|byte| 128 <= *byte).is_none()
+    match bytes.iter().position(|byte| 128 <= *byte) {
+        Some(_) => false,
+        None => true,
+    }
 }
 
 fn is_timeuuid(bytes: &[u8]) -> bool
