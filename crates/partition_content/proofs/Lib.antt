@@ -13,3 +13,5 @@ mod MemoryLemmas
 mod ReadLemmas
 mod ToldLemmas
 mod PartLemmas
+mod LossLemmas
+mod SweepLemmas

@@ -5,7 +5,6 @@ use Rattle.std.specs.BTreeMap.{is_at, insert_entry}
 use Rattle.std.specs.List.{AllByRecursion}
 use Rattle.std.specs.List.Sorted.{IsStrictlySortedBy}
 use Rattle.std.specs.Map.{keys_of, lookup, remove_entry}
-use Rattle.std.specs.Map.Calls.{RetainsPairs}
 use Rattle.std.specs.Ordering.{match_ordering, is_eq}
 use Rattle.std.specs.declared.cmp.Ordering.{Ordering}
 use Rattle.std.specs.declared.cmp.Ordering.TheVariants.{Less, Equal, Greater}
@@ -19,7 +18,7 @@ use Rattle.partition_content.specs.declared.spots.Spot.{Spot}
 use Rattle.partition_content.specs.declared.spots.Spot.TheVariants.{At}
 use Rattle.partition_content.specs.Spots.{spot_cmp}
 use Rattle.partition_content.specs.declared.Arrived.{Arrived}
-use Rattle.partition_content.specs.Slots.{SlotMap, stored_of, stored_in, held_in, helds_in, changes_of, AreFiled, AreCleared, IsCleared, IsGood, spots_in}
+use Rattle.partition_content.specs.Slots.{SlotMap, stored_of, stored_in, held_in, helds_in, changes_of, AreFiled, IsGood, spots_in}
 use Rattle.partition_content.proofs.SpotLemmas.{key_exact}
 use Rattle.partition_content.proofs.SlotLemmas.{at_place}
 
@@ -173,13 +172,7 @@ pub to_filter : (p : Spot × Option Held → Bool) (es : List (Spot × Option He
 to_filter p [] d h t = h
 to_filter p (e ∷ es) d h t = to_filter_at (p e) e d es (filter p es) (λ same. ap p same ∙ t) (λ k. to_filter p es d k t) h
 
--- ---- clearing, by a closure
-
-pub cleared_by : {F : Type 0} (x : Held) (T : F → Spot → Option Arrived → Bool → Option Arrived → F → Type 0) (f : F) → ((k : Spot) (v : Option Arrived) (b : Bool) (w : Option Arrived) (f' : F) → T f k v b w f' → (b ≡ true) × IsCleared x (held_in v) (held_in w) × (f' ≡ f)) → (es fs : List (Spot × Option Arrived)) → RetainsPairs T f es fs → AreCleared x (helds_in es) (helds_in fs)
-cleared_by x T f step [] fs h = ap helds_in h
-cleared_by {F} x T f step (e ∷ es) fs (b, w, g, rest, call, more, split) =
-    let s = step e.0 e.1 b w g call in
-    (held_in w, helds_in rest, s.1, cleared_by x T f step es rest (subst (λ (v : F). RetainsPairs T v es rest) s.2 more), ap helds_in (split ∙ ap (λ (c : Bool). cond c ((e.0, w) ∷ rest) rest) s.0))
+-- ---- all of it
 
 pub between_whole : (es : List (Spot × Option Arrived)) → filter (λ (e : Spot × Option Arrived). true) es ≡ es
 between_whole [] = refl

@@ -73,7 +73,8 @@ impl PartitionContent {
     }
 
     /// Takes all the memory that `apply` needs for these changes, so that it can't fail. The changes stay as they are. Memory
-    /// that was taken before for others is given back. It is an error too where the length would not be below 2^64.
+    /// that was taken before for others is given back. It is an error too where the length would not be below 2^64. A change
+    /// costs the logarithm of the changes held, and a deletion of rows also what is held in its place: a copy of each key there.
     pub fn reserve(&mut self, incoming: &Content) -> Result<(), AllocError>
         ensures stored { self.new.stored ≡ self.old.stored }
         ensures ready { OnOk result (IsReadyFor self.new incoming.now) }
@@ -85,13 +86,15 @@ impl PartitionContent {
             return Err(AllocError);
         }
         let bare = stays_bare(self.bare, changes);
-        let keys = take_memory(&mut self.slots, self.alloc, bare, changes)?;
-        self.ready = Some(Ready { bare, keys });
+        let ready = take_memory(&mut self.slots, self.alloc, bare, changes)?;
+        self.ready = Some(ready);
         Ok(())
     }
 
     /// Puts in changes for which there is memory, at a node time: the content is then that of both. What was there keeps its
-    /// arrival, also where it comes again, and what was not comes at this time. It takes no memory, and moves the changes.
+    /// arrival, also where it comes again, and what was not comes at this time. It takes no memory, and moves the changes. A
+    /// change costs the logarithm of the changes held and the number of deletions of ranges, and a deletion of rows also what
+    /// is held in its place.
     pub fn apply(&mut self, incoming: Content, at: Micros)
         requires { IsReadyFor self.old incoming }
         ensures content { IsMergeOf (changes_in self.new) (changes_in self.old) incoming }
@@ -105,6 +108,7 @@ impl PartitionContent {
                 self.alloc,
                 ready.bare,
                 &ready.keys,
+                &ready.inside,
                 incoming.into_changes(),
                 at,
             );
@@ -113,8 +117,8 @@ impl PartitionContent {
         }
     }
 
-    /// The length that `apply` would leave, as the changes are stored, told before it is called; `reserve` has to come first. Cells
-    /// and markers cost the logarithm of the changes held; with a deletion of rows each change held is looked at.
+    /// The length that `apply` would leave, as the changes are stored, told before it is called; `reserve` has to come first. It
+    /// costs what `apply` costs; with a deletion of rows each change that is outranked is compared with all that come.
     pub fn length_with(&self, incoming: &Content) -> u64
         requires { IsReadyFor self.now incoming.now }
         ensures { IsMergedLength (changes_in self.now) incoming.now result }
@@ -181,5 +185,11 @@ impl PartitionContent {
         ensures settled { IsSettled (changes_in self.now) }
     {
         self.length
+    }
+
+    /// How many keys the tree has: changes, and memory that is taken for some.
+    #[cfg(test)]
+    pub(crate) fn key_count(&self) -> usize {
+        self.slots.len()
     }
 }

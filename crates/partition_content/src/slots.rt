@@ -12,7 +12,7 @@ ghost use Rattle.std.specs.Option.{option_to_list};
 ghost use Rattle.std.specs.List.{sum_by};
 ghost use Rattle.changes.specs.Lengths.{held_length};
 ghost use Rattle.partition_content.specs.Spots.{spot_cmp};
-ghost use Rattle.partition_content.specs.Slots.{stored_of, stored_in, held_in, helds_in, helds_of, spots_in, slot_at, changes_of, change_in, AreFiled, IsCleared, AreCleared, AreLeft, IsLostWith, AreLost, IsPutIn, ComesIn, IsPutAt, IsRowDeletion};
+ghost use Rattle.partition_content.specs.Slots.{stored_of, stored_in, held_in, helds_in, helds_of, spots_in, slot_at, changes_of, change_in, AreFiled, IsPutIn, ComesIn, IsPutAt};
 
 use crate::Arrived;
 use crate::spots::Spot;
@@ -22,7 +22,6 @@ use std::alloc::{AllocError, Global};
 use std::cmp::Ordering;
 use std::collections::BTreeMap;
 use std::collections::btree_map::Range;
-use std::ops;
 
 /// The changes with their arrivals, by their keys. A key without a change is memory that is taken for one.
 pub(crate) type Slots = BTreeMap<Spot, Option<Arrived>>;
@@ -132,69 +131,6 @@ pub(crate) fn drop_unused(slots: &mut Slots, at: &Spot)
     if is_unused(slots, at) {
         slots.remove(at);
     }
-}
-
-/// Takes out the change in a slot, if x outranks it.
-fn clear(slot: &mut Option<Arrived>, x: &Held)
-    ensures cleared { IsCleared x.now (held_in slot.old) (held_in slot.new) }
-    ensures left { (slot.new ≡ slot.old) ⊎ (slot.new ≡ None) }
-{
-    if let Some(there) = slot {
-        if x.outranks(&there.held) {
-            *slot = None;
-        }
-    }
-}
-
-/// Takes out the changes that x outranks.
-pub(crate) fn clear_all(slots: &mut Slots, x: &Held)
-    ensures cleared { AreCleared x.now (helds_in slots.old.entries) (helds_in slots.new.entries) }
-    ensures left { AreLeft slots.old.entries slots.new.entries }
-    ensures keys { spots_in (helds_of slots.new) ≡ spots_in (helds_of slots.old) }
-{
-    slots.retain(|_, slot| {
-        clear(slot, x);
-        true
-    });
-}
-
-/// The length of the change in a slot, if x outranks it, with that of others.
-fn lost_with(slot: &Option<Arrived>, x: &Held, others: u64) -> u64
-    requires { sum_by held_length (option_to_list (held_in slot.now)) + others < 2 ^ 64 }
-    ensures { IsLostWith x.now (held_in slot.now) others result }
-{
-    match slot {
-        Some(there) => if x.outranks(&there.held) {
-            there.held.encoded_length() + others
-        } else {
-            others
-        },
-        None => others,
-    }
-}
-
-/// The length of the changes on a walk that x outranks.
-pub(crate) fn lost_on(walk: Range<'_, Spot, Option<Arrived>>, x: &Held) -> u64
-    requires { sum_by held_length (changes_of (helds_in walk)) < 2 ^ 64 }
-    ensures { AreLost x.now (helds_in walk.entry) result }
-{
-    let mut lost = 0;
-    for (_, slot) in walk {
-        lost = lost_with(slot, x, lost);
-    }
-    lost
-}
-
-/// The length of the changes that the deletion of a row outranks: all stand between the deletion's own key and the row's end.
-pub(crate) fn lost_in_row(slots: &Slots, at: &Spot, end: &Spot, x: &Held) -> u64
-    requires row { IsRowDeletion x.now at.now end.now }
-    requires forward { spot_cmp at.now end.now ≡ Less }
-    requires filed { AreFiled (helds_in slots.now.entries) }
-    requires fits { sum_by held_length (changes_of (helds_in slots.now.entries)) < 2 ^ 64 }
-    ensures { AreLost x.now (helds_in slots.now.entries) result }
-{
-    let walk = slots.range((ops::Bound::Included(at), ops::Bound::Excluded(end)));
-    lost_on(walk, x)
 }
 
 /// All of it, in order.
