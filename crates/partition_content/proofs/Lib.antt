@@ -11,6 +11,7 @@ mod ClearLemmas
 mod OwnLemmas
 mod MemoryLemmas
 mod ReadLemmas
+mod SliceLemmas
 mod ToldLemmas
 mod PartLemmas
 mod LossLemmas

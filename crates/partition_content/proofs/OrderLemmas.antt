@@ -28,9 +28,9 @@ sorted_from : (x : Held) (xs : List Held) → AllByRecursion (λ y. stored_cmp x
 unfolding IsStrictlySortedBy
 sorted_from x xs h s = (h, s)
 
-sorted_none : AreInOrder []
+pub none_in_order : AreInOrder []
 unfolding IsStrictlySortedBy
-sorted_none = tt
+none_in_order = tt
 
 all_from : (P : Held → Type 0) (xs : List Held) → ((y : Held) → Contains xs y → P y) → AllByRecursion P xs
 all_from P [] h = tt
@@ -54,7 +54,7 @@ in_order_by s (Some x) es filed above rest =
     rest
 
 pub changes_in_order : (es : List (Spot × Option Held)) → AreFiled es → IsStrictlySortedBy spot_cmp (keys_of es) → AreInOrder (changes_of es)
-changes_in_order [] filed sorted = sorted_none
+changes_in_order [] filed sorted = none_in_order
 changes_in_order (e ∷ es) filed sorted =
     in_order_by e.0 e.1 es filed (sorted_head spot_cmp e.0 (keys_of es) sorted)
     (changes_in_order es (filed_less e es filed) (sorted_tail spot_cmp e.0 (keys_of es) sorted))

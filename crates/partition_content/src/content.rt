@@ -1,6 +1,6 @@
 //! What a node keeps of a partition.
 
-ghost use Rattle.std.specs.Prelude.{◌≡◌, ◌↔◌, [], None, Contains, IsTrue, IfOk, OnOk, OnErr, IfSome, IfNone};
+ghost use Rattle.std.specs.Prelude.{◌≡◌, ◌↔◌, ◌≤◌, [], None, length, Contains, IsTrue, IfOk, OnOk, OnErr, IfSome, IfNone};
 ghost use Rattle.cell_merge.specs.Settled.{IsSettled};
 ghost use Rattle.changes.specs.Contents.{IsMergeOf};
 ghost use Rattle.changes.specs.Lengths.{changes_length};
@@ -118,7 +118,8 @@ impl PartitionContent {
     }
 
     /// The length that `apply` would leave, as the changes are stored, told before it is called; `reserve` has to come first. It
-    /// costs what `apply` costs; with a deletion of rows each change that is outranked is compared with all that come.
+    /// costs what `apply` costs, and where deletions of rows come, for each change that is outranked the logarithm of those that
+    /// come and the number of deletions of ranges among them.
     pub fn length_with(&self, incoming: &Content) -> u64
         requires { IsReadyFor self.now incoming.now }
         ensures { IsMergedLength (changes_in self.now) incoming.now result }
@@ -143,8 +144,7 @@ impl PartitionContent {
         ensures { IfOk result (λ part. IsSlice from.now upto.now (changes_in self.now) part) }
     {
         let changes = copy_slice(alloc, &self.slots, from, upto)?;
-        let part = Content::from_changes(alloc, changes)?;
-        Ok(part)
+        Ok(Content::from_settled(changes))
     }
 
     /// All changes, in memory of their own.
@@ -152,9 +152,7 @@ impl PartitionContent {
         ensures { IfOk result (λ content. content ≡ changes_in self.now) }
     {
         let changes = copy_all(alloc, &self.slots)?;
-        let content = Content::from_changes(alloc, changes)?;
-        let _ = content.as_slice();
-        Ok(content)
+        Ok(Content::from_settled(changes))
     }
 
     /// All changes with their arrivals, in the order of their places, in memory of their own.
@@ -187,9 +185,10 @@ impl PartitionContent {
         self.length
     }
 
-    /// How many keys the tree has: changes, and memory that is taken for some.
-    #[cfg(test)]
-    pub(crate) fn key_count(&self) -> usize {
+    /// How many keys the tree has: one for each change, and one for each place for which memory is taken.
+    pub fn key_count(&self) -> usize
+        ensures { length self.now.stored ≤ result }
+    {
         self.slots.len()
     }
 }

@@ -20,6 +20,7 @@ use crate::memory::are_narrow;
 use crate::slots::{Slots, change_at};
 use crate::spots::Spot;
 use crate::taking::{is_outranked_over, is_reached_at};
+use cell_merge::Rivals;
 use changes::{Held, encoded_length};
 use std::alloc::Global;
 use std::cmp::Ordering;
@@ -97,12 +98,14 @@ fn kept_length(slots: &Slots, length: u64, alloc: Global, keys: &[Keys], changes
     requires keys { (bare : Bool) × (keys.now ≡ map (keys_for bare) (map place_of changes.now)) }
     requires good { IsGood (helds_of slots.now) }
     requires length { length ≡ changes_length (changes_of (helds_in slots.now.entries)) }
+    requires ordered { AreInOrder changes.now }
     ensures { IsPartLength (IsOutrankedBy changes.now) (changes_of (helds_in slots.now.entries)) result }
 {
     let mut kept = length - encoded_length(&[]);
     let mut at = 0;
     for x in changes {
-        kept -= lost_by(slots, alloc, &keys[at], &changes[..at], x);
+        let before = Rivals::new(&changes[..at]);
+        kept -= lost_by(slots, alloc, &keys[at], &before, x);
         at += 1;
     }
     kept

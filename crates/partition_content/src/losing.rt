@@ -7,7 +7,7 @@ ghost use Rattle.std.specs.BTreeMap.Range.{entries_between};
 ghost use Rattle.std.specs.declared.cmp.Ordering.TheVariants.{Less};
 ghost use Rattle.std.specs.declared.ops.Bound.TheVariants.{Included, Excluded};
 ghost use Rattle.changes.specs.Lengths.{held_length};
-ghost use Rattle.cell_merge.specs.Parts.{IsInnermost, IsOutrankedBy};
+ghost use Rattle.cell_merge.specs.Parts.{IsInnermost};
 ghost use Rattle.partition_content.specs.declared.keys.Span.TheVariants.{Row, Rows};
 ghost use Rattle.partition_content.specs.declared.spots.Spot.TheVariants.{At};
 ghost use Rattle.partition_content.specs.Spots.{spot_cmp};
@@ -20,6 +20,7 @@ use crate::keys::{Keys, Span};
 use crate::reading::first_row;
 use crate::slots::{Slots, whole};
 use crate::spots::Spot;
+use cell_merge::Rivals;
 use changes::Held;
 use std::alloc::Global;
 use std::cmp::Ordering;
@@ -65,27 +66,15 @@ pub(crate) fn before_rows(slots: &Slots, alloc: Global) -> Range<'_, Spot, Optio
     slots.range((ops::Bound::Unbounded, ops::Bound::Excluded(&rows)))
 }
 
-/// Whether one of the changes outranks x.
-fn is_outranked_by(changes: &[Held], x: &Held) -> bool
-    ensures { IsTrue result ↔ IsOutrankedBy changes.now x.now }
-{
-    for y in changes {
-        if y.outranks(x) {
-            return true;
-        }
-    }
-    false
-}
-
 /// Whether x outranks the change, and none of the others does.
-fn is_newly_outranked(others: &[Held], x: &Held, there: &Held) -> bool
+fn is_newly_outranked(others: &Rivals<'_>, x: &Held, there: &Held) -> bool
     ensures { IsTrue result ↔ IsNewlyOutranked others.now x.now there.now }
 {
-    x.outranks(there) && !is_outranked_by(others, there)
+    x.outranks(there) && !others.outrank(there)
 }
 
 /// The length of the change in a slot, if x outranks it and none of the others does, with a length that was counted before.
-fn lost_with(slot: &Option<Arrived>, others: &[Held], x: &Held, counted: u64) -> u64
+fn lost_with(slot: &Option<Arrived>, others: &Rivals<'_>, x: &Held, counted: u64) -> u64
     requires { sum_by held_length (option_to_list (held_in slot.now)) + counted < 2 ^ 64 }
     ensures { IsCountedWith (IsNewlyOutranked others.now x.now) (held_in slot.now) counted result }
 {
@@ -100,7 +89,7 @@ fn lost_with(slot: &Option<Arrived>, others: &[Held], x: &Held, counted: u64) ->
 }
 
 /// The length of the changes on a walk that x outranks and none of the others does.
-fn lost_on(walk: Range<'_, Spot, Option<Arrived>>, others: &[Held], x: &Held) -> u64
+fn lost_on(walk: Range<'_, Spot, Option<Arrived>>, others: &Rivals<'_>, x: &Held) -> u64
     requires { sum_by held_length (changes_of (helds_in walk)) < 2 ^ 64 }
     ensures { IsLengthOf (IsNewlyOutranked others.now x.now) (helds_in walk.entry) result }
 {
@@ -112,7 +101,7 @@ fn lost_on(walk: Range<'_, Spot, Option<Arrived>>, others: &[Held], x: &Held) ->
 }
 
 /// The length of the changes between two bounds that x outranks and none of the others does.
-fn lost_between(slots: &Slots, from: &Spot, upto: &Spot, others: &[Held], x: &Held) -> u64
+fn lost_between(slots: &Slots, from: &Spot, upto: &Spot, others: &Rivals<'_>, x: &Held) -> u64
     requires { sum_by held_length (changes_of (helds_in slots.now.entries)) < 2 ^ 64 }
     ensures { IsLengthOf (IsNewlyOutranked others.now x.now) (entries_between spot_cmp (Excluded from.now) (Excluded upto.now) (helds_in slots.now.entries)) result }
 {
@@ -123,7 +112,7 @@ fn lost_between(slots: &Slots, from: &Spot, upto: &Spot, others: &[Held], x: &He
 }
 
 /// The length of the deletions of ranges and of the partition that x outranks and none of the others does.
-fn lost_wide(slots: &Slots, alloc: Global, others: &[Held], x: &Held) -> u64
+fn lost_wide(slots: &Slots, alloc: Global, others: &Rivals<'_>, x: &Held) -> u64
     requires { sum_by held_length (changes_of (helds_in slots.now.entries)) < 2 ^ 64 }
     ensures { IsLengthOf (IsNewlyOutranked others.now x.now) (wide_of (helds_in slots.now.entries)) result }
 {
@@ -131,7 +120,7 @@ fn lost_wide(slots: &Slots, alloc: Global, others: &[Held], x: &Held) -> u64
 }
 
 /// The length of the change that a cell or a marker outranks and none of the others does.
-fn lost_at(slots: &Slots, at: &Spot, others: &[Held], x: &Held) -> u64
+fn lost_at(slots: &Slots, at: &Spot, others: &Rivals<'_>, x: &Held) -> u64
     requires at { at.now ≡ At x.now.place }
     requires narrow { IsInnermost x.now.place }
     requires good { IsGood (helds_of slots.now) }
@@ -142,7 +131,7 @@ fn lost_at(slots: &Slots, at: &Spot, others: &[Held], x: &Held) -> u64
 }
 
 /// The length of the changes that the deletion of a row outranks and none of the others does.
-fn lost_in_row(slots: &Slots, own: &Keys, end: &Spot, others: &[Held], x: &Held) -> u64
+fn lost_in_row(slots: &Slots, own: &Keys, end: &Spot, others: &Rivals<'_>, x: &Held) -> u64
     requires keys { AreKeysOf own.now x.now.place }
     requires span { own.now.span ≡ Row end.now }
     requires good { IsGood (helds_of slots.now) }
@@ -159,7 +148,7 @@ fn lost_in_range(
     own: &Keys,
     from: &Spot,
     upto: &Spot,
-    others: &[Held],
+    others: &Rivals<'_>,
     x: &Held,
 ) -> u64
     requires keys { AreKeysOf own.now x.now.place }
@@ -174,16 +163,23 @@ fn lost_in_range(
 }
 
 /// The length of all changes that x outranks and none of the others does.
-fn lost_of_all(slots: &Slots, others: &[Held], x: &Held) -> u64
+fn lost_of_all(slots: &Slots, others: &Rivals<'_>, x: &Held) -> u64
     requires { sum_by held_length (changes_of (helds_in slots.now.entries)) < 2 ^ 64 }
     ensures { IsLengthOf (IsNewlyOutranked others.now x.now) (helds_in slots.now.entries) result }
 {
     lost_on(whole(slots), others, x)
 }
 
-/// The length of the changes that x outranks and none of the others does. It costs what lies in the place of x; that of a
-/// deletion of a range also the number of deletions of ranges.
-pub(crate) fn lost_by(slots: &Slots, alloc: Global, own: &Keys, others: &[Held], x: &Held) -> u64
+/// The length of the changes that x outranks and none of the others does. It costs what lies in the place of x, each time the
+/// logarithm of the others and the number of deletions of ranges among them; that of a deletion of a range also the number of
+/// deletions of ranges that are there.
+pub(crate) fn lost_by(
+    slots: &Slots,
+    alloc: Global,
+    own: &Keys,
+    others: &Rivals<'_>,
+    x: &Held,
+) -> u64
     requires keys { AreKeysOf own.now x.now.place }
     requires good { IsGood (helds_of slots.now) }
     requires fits { sum_by held_length (changes_of (helds_in slots.now.entries)) < 2 ^ 64 }

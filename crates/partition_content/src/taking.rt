@@ -25,6 +25,7 @@ use crate::losing::lost_by;
 use crate::reading::first_row;
 use crate::slots::{Slots, change_at, put_at, put_own};
 use crate::spots::Spot;
+use cell_merge::Rivals;
 use changes::Held;
 use cs_base::Micros;
 use std::alloc::Global;
@@ -170,7 +171,8 @@ fn put_deletion(
     if is_reached_at(slots, &own.at, &x) {
         return length;
     }
-    let lost = lost_by(slots, alloc, own, &[], &x);
+    let alone = Rivals::new(&[]);
+    let lost = lost_by(slots, alloc, own, &alone, &x);
     let gained = x.encoded_length();
     clear(slots, &own.at, inside, &x, lost);
     put_at(slots, &own.at, x, time);

@@ -11,6 +11,7 @@ use Rattle.partition_content.proofs.MemoryLemmas.{key_of, key_within}
 use Rattle.partition_content.proofs.OrderLemmas.{changes_in_order}
 use Rattle.partition_content.proofs.ToldLemmas.{split_at}
 use Rattle.partition_content.proofs.PartLemmas.{AreKept, kept_start, kept_next, kept_most, kept_end}
+use Rattle.partition_content.proofs.SliceLemmas.{front_in_order}
 use Rattle.partition_content.proofs.lengths.kept_length.Goals as goal
 
 pub loop-x-init : goal.loop-x-init
@@ -30,6 +31,9 @@ bounds-keys-at c =
     key_within c.requires.keys.0 c.args.keys.now c.args.changes.now (take c.loop-x.x-index c.args.changes.now) (c.x-item.result ∷ drop (c.loop-x.x-index + 1) c.args.changes.now) (drop (c.loop-x.x-index + 1) c.args.changes.now) c.x-item.result c.loop-x.at c.requires.keys.1
     (split_at c.args.changes.now c.loop-x.x-index c.x-item.result below c.x-item.is) refl (c.loop-x.invariant.count ∙ sym (length-take-le c.loop-x.x-index c.args.changes.now (omega (arith, below))))
 
+pub new-before-requires : goal.new-before-requires
+new-before-requires c = front_in_order c.args.changes.now c.loop-x.at c.requires.ordered
+
 pub lost_by-kept-requires-clause-keys : goal.lost_by-kept-requires-clause-keys
 lost_by-kept-requires-clause-keys c =
     let below : c.loop-x.x-index < length c.args.changes.now = omega arith in (
@@ -42,14 +46,14 @@ pub overflow_sub-kept-in-loop-x : goal.overflow_sub-kept-in-loop-x
 overflow_sub-kept-in-loop-x c =
     let count = c.loop-x.invariant.count in
     kept_most (take c.loop-x.x-index c.args.changes.now) c.x-item.result (helds_in c.args.slots.now.entries) c.loop-x.kept c.lost_by-kept.result c.loop-x.invariant.kept
-    (subst (λ (n : ℕ). IsLengthOf (IsNewlyOutranked (take n c.args.changes.now) c.x-item.result) (helds_in c.args.slots.now.entries) c.lost_by-kept.result) count c.lost_by-kept.ensures)
+    (subst (λ (l : List Held). IsLengthOf (IsNewlyOutranked l c.x-item.result) (helds_in c.args.slots.now.entries) c.lost_by-kept.result) (c.new-before.ensures ∙ ap (λ (n : ℕ). take n c.args.changes.now) count) c.lost_by-kept.ensures)
 
 pub loop-x-preserved : goal.loop-x-preserved
 loop-x-preserved c =
     let below : c.loop-x.x-index < length c.args.changes.now = omega arith in
     let count = c.loop-x.invariant.count in
     let lost : IsLengthOf (IsNewlyOutranked (take c.loop-x.x-index c.args.changes.now) c.x-item.result) (helds_in c.args.slots.now.entries) c.lost_by-kept.result =
-    subst (λ (n : ℕ). IsLengthOf (IsNewlyOutranked (take n c.args.changes.now) c.x-item.result) (helds_in c.args.slots.now.entries) c.lost_by-kept.result) count c.lost_by-kept.ensures in
+    subst (λ (l : List Held). IsLengthOf (IsNewlyOutranked l c.x-item.result) (helds_in c.args.slots.now.entries) c.lost_by-kept.result) (c.new-before.ensures ∙ ap (λ (n : ℕ). take n c.args.changes.now) count) c.lost_by-kept.ensures in
     record {
       count = omega (arith, count);
       kept = kept_next c.args.changes.now c.loop-x.x-index c.x-item.result (helds_in c.args.slots.now.entries) c.loop-x.kept c.lost_by-kept.result below c.x-item.is c.loop-x.invariant.kept lost;
