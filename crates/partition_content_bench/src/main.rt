@@ -1,7 +1,8 @@
 //! Cells applied to what is kept of one partition, one after another. With no words it applies a hundred, ten to a row, and
-//! tells how many rows there are, and then deletes rows one after another from a partition of a hundred thousand cells.
-//! `time COUNT` applies so many, ten to a row, and `row COUNT` so many to one row, and each writes how many microseconds that
-//! took; `delete COUNT ROWS` deletes so many rows of so many cells, and writes how many microseconds the deletions took.
+//! tells how many rows there are, renews all of them at once, and then deletes rows one after another from a partition of a
+//! hundred thousand cells. `time COUNT` applies so many, ten to a row, and `row COUNT` so many to one row, and each writes how
+//! many microseconds that took; `renew COUNT` renews so many cells at once, and `delete COUNT ROWS` deletes so many rows of so
+//! many cells, and each writes how many microseconds that alone took.
 #![tactic(auto)]
 
 use anyhow::{Result, bail};
@@ -21,9 +22,12 @@ fn main(rt: HostRuntime) -> Result<()> {
     let start = Instant::now(&rt)?;
     match command {
         "sample" => {
-            let content = apply_cells(rt.alloc(), count, count / 10)?;
+            let mut content = apply_cells(rt.alloc(), count, count / 10)?;
             let rows = row_count(rt.alloc(), &content)?;
             println!(rt; "{count} cells, {rows} rows")?;
+            let told = renew_cells(rt.alloc(), &mut content, count, count / 10)?;
+            let length = content.encoded_length();
+            println!(rt; "{told} bytes told, {length} bytes once they are renewed")?;
             let mut large = apply_cells(rt.alloc(), 100_000, 10_000)?;
             delete_rows(rt.alloc(), &mut large, 1_000)?;
             let length = large.encoded_length();
@@ -39,6 +43,13 @@ fn main(rt: HostRuntime) -> Result<()> {
             let micros = start.elapsed(&rt)?.as_micros();
             println!(rt; "{micros}")?;
         }
+        "renew" => {
+            let mut content = apply_cells(rt.alloc(), count, count / 10)?;
+            let start = Instant::now(&rt)?;
+            let _told = renew_cells(rt.alloc(), &mut content, count, count / 10)?;
+            let micros = start.elapsed(&rt)?.as_micros();
+            println!(rt; "{micros}")?;
+        }
         "delete" => {
             let mut content = apply_cells(rt.alloc(), count, count / 10)?;
             let start = Instant::now(&rt)?;
@@ -46,7 +57,7 @@ fn main(rt: HostRuntime) -> Result<()> {
             let micros = start.elapsed(&rt)?.as_micros();
             println!(rt; "{micros}")?;
         }
-        _ => bail!("time COUNT, row COUNT, delete COUNT ROWS, or no words"),
+        _ => bail!("time COUNT, row COUNT, renew COUNT, delete COUNT ROWS, or no words"),
     }
     Ok(())
 }
@@ -76,11 +87,54 @@ fn delete_rows(alloc: Global, content: &mut PartitionContent, rows: u32) -> Resu
     Ok(())
 }
 
-fn one_cell(alloc: Global, row: u32, at: u32) -> Result<Content, AllocError> {
+/// Later than all cells that are applied one after another.
+const LATER: i64 = 1 << 32;
+
+/// Applies the same cells again at once, each later, with the deletion of the first row, which is between the old and the new
+/// ones, and gives the length that was told beforehand.
+fn renew_cells(
+    alloc: Global,
+    content: &mut PartitionContent,
+    count: u32,
+    rows: u32,
+) -> Result<u64, AllocError> {
+    let mut changes = Vec::new(alloc);
+    let first = Bytes::from_slice(alloc, &0u32.to_be_bytes())?;
+    changes.push(change(Place::RowGone(first), None, LATER))?;
+    let rows = rows.max(1);
+    for at in 0..count {
+        let row = at.wrapping_mul(2654435761) % rows;
+        let value = Some(Bytes::from_slice(alloc, b"later")?);
+        changes.push(change(cell(alloc, row, at)?, value, LATER + 1))?;
+    }
+    let incoming = Content::from_changes(alloc, changes)?;
+    content.reserve(&incoming)?;
+    let told = content.length_with(&incoming);
+    content.apply(incoming, Micros::new(2));
+    Ok(told)
+}
+
+fn cell(alloc: Global, row: u32, at: u32) -> Result<Place, AllocError> {
     let name = Bytes::from_slice(alloc, &row.to_be_bytes())?;
-    let column = (at % 250) as u8;
+    Ok(Place::Cell(name, (at % 250) as u8))
+}
+
+fn one_cell(alloc: Global, row: u32, at: u32) -> Result<Content, AllocError> {
     let value = Some(Bytes::from_slice(alloc, b"value")?);
-    one_change(alloc, Place::Cell(name, column), value, i64::from(at))
+    one_change(alloc, cell(alloc, row, at)?, value, i64::from(at))
+}
+
+fn change(place: Place, value: Option<Bytes>, timestamp: i64) -> Held {
+    Held {
+        place,
+        value,
+        timestamp,
+        submitted: Micros::new(1),
+        request: ReqId {
+            node: NodeId::FIRST,
+            time: Micros::new(1),
+        },
+    }
 }
 
 fn one_change(
@@ -90,16 +144,7 @@ fn one_change(
     timestamp: i64,
 ) -> Result<Content, AllocError> {
     let mut changes = Vec::new(alloc);
-    changes.push(Held {
-        place,
-        value,
-        timestamp,
-        submitted: Micros::new(1),
-        request: ReqId {
-            node: NodeId::FIRST,
-            time: Micros::new(1),
-        },
-    })?;
+    changes.push(change(place, value, timestamp))?;
     Content::from_changes(alloc, changes)
 }
 
