@@ -279,7 +279,7 @@ fn crowded_place(alloc: Global, seed: &mut u32) -> Result<Place, AllocError> {
         0 => Place::PartGone,
         1..=5 => {
             let width = next(seed, 6);
-            Place::RangeGone(edge(alloc, row)?, edge(alloc, row + width)?)
+            Place::RangeGone(edge(alloc, row)?, edge(alloc, row.saturating_add(width))?)
         }
         6..=9 => Place::RowGone(numbered(alloc, row)?),
         10 => Place::Marker(numbered(alloc, row)?),
@@ -315,7 +315,7 @@ fn sweeps_what_a_plain_list_sweeps(rt: HostRuntime) -> Result<(), Fail> {
         let mut content = PartitionContent::new(alloc);
         let mut plain = Vec::new(alloc);
         for turn in 0..30 {
-            let count = next(&mut seed, 12) + 1;
+            let count = next(&mut seed, 12).saturating_add(1);
             let incoming = crowd(alloc, &mut seed, count, turn)?;
             content.reserve(&incoming)?;
             plain = plain_merge(alloc, &plain, incoming.as_slice())?;
