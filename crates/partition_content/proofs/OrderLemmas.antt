@@ -13,10 +13,12 @@ use Rattle.std.proofs.lemmas.Map.Keys.{sorted_head, sorted_tail}
 use Rattle.changes.specs.declared.Held.{Held}
 use Rattle.changes.specs.Contents.{AreApart}
 use Rattle.changes.specs.Places.{stored_cmp, AreInOrder}
+use Rattle.changes.proofs.Orderings.{less_back}
 use Rattle.cs_base.proofs.Members.{contains_nil, contains_here, contains_there, contains_cases, contains_map}
 use Rattle.partition_content.specs.declared.spots.Spot.{Spot}
 use Rattle.partition_content.specs.declared.spots.Spot.TheVariants.{At}
 use Rattle.partition_content.specs.Spots.{spot_cmp}
+use Rattle.partition_content.specs.SpotLaws.{spot_total}
 use Rattle.partition_content.specs.declared.Arrived.{Arrived}
 use Rattle.partition_content.specs.Slots.{SlotMap, stored_of, stored_in, held_in, helds_in, changes_of, AreFiled, IsGood, spots_in}
 use Rattle.partition_content.proofs.SpotLemmas.{key_exact}
@@ -125,6 +127,30 @@ key_there k (e ∷ es) h =
 pub none_is : (o : Option (Option Arrived)) (b : Bool) → b ≡ is_some o → b ≡ false → o ≡ None
 none_is None b e f = refl
 none_is (Some v) b e f = cc
+
+-- what is there at a key, put in there again, changes nothing
+same_at : (o : Ordering) (k : Spot) (v : Option Arrived) (e : Spot × Option Arrived) (es more : List (Spot × Option Arrived)) (r : Option (Option Arrived)) → spot_cmp k e.0 ≡ o → cond (is_eq o) (Some e.1) r ≡ Some v → (r ≡ Some v → spot_cmp e.0 k ≡ Less) → (r ≡ Some v → more ≡ es) → match_ordering o ((k, v) ∷ e ∷ es) ((e.0, v) ∷ es) (e ∷ more) ≡ e ∷ es
+same_at Less k v e es more r p h above rest = let back = less_back spot_total e.0 k (above h) in cc
+same_at Equal k v e es more r p h above rest = let is : e.1 ≡ v = cc in ap (λ (w : Option Arrived). (e.0, w) ∷ es) (sym is)
+same_at Greater k v e es more r p h above rest = ap (λ (l : List (Spot × Option Arrived)). e ∷ l) (rest h)
+
+inserted_same : (es : List (Spot × Option Arrived)) (k : Spot) (v : Option Arrived) → IsStrictlySortedBy spot_cmp (keys_of es) → lookup (is_at (spot_cmp k)) es ≡ Some v → insert_entry spot_cmp es k v ≡ es
+inserted_same [] k v sorted h = cc
+inserted_same (e ∷ es) k v sorted h =
+    same_at (spot_cmp k e.0) k v e es (insert_entry spot_cmp es k v) (lookup (is_at (spot_cmp k)) es) refl h
+    (λ r. key_at (λ q. spot_cmp e.0 q ≡ Less) (keys_of es) k (sorted_head spot_cmp e.0 (keys_of es) sorted) (key_there k es (ap is_some r)))
+    (λ r. inserted_same es k v (sorted_tail spot_cmp e.0 (keys_of es) sorted) r)
+
+-- the key was there and nothing changes, or memory is taken at it
+abbrev pub IsMade : Spot → List (Spot × Option Arrived) → List (Spot × Option Arrived) → Type 0
+IsMade k es fs = ((fs ≡ es) × Contains (keys_of es) k) ⊎ ((lookup (is_at (spot_cmp k)) es ≡ None) × (fs ≡ insert_entry spot_cmp es k None))
+
+made_by : (o : Option (Option Arrived)) (es fs : List (Spot × Option Arrived)) (k : Spot) → lookup (is_at (spot_cmp k)) es ≡ o → IsStrictlySortedBy spot_cmp (keys_of es) → fs ≡ insert_entry spot_cmp es k (stored_in o) → IsMade k es fs
+made_by None es fs k e sorted is = inr (e, is)
+made_by (Some v) es fs k e sorted is = inl (is ∙ inserted_same es k v sorted e, key_there k es (ap is_some e))
+
+pub made : (es fs : List (Spot × Option Arrived)) (k : Spot) → IsStrictlySortedBy spot_cmp (keys_of es) → fs ≡ insert_entry spot_cmp es k (stored_in (lookup (is_at (spot_cmp k)) es)) → IsMade k es fs
+made es fs k sorted is = made_by (lookup (is_at (spot_cmp k)) es) es fs k refl sorted is
 
 -- ---- memory given back
 

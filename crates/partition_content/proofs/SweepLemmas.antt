@@ -1,5 +1,6 @@
 -- What a deletion outranks is taken out key by key, and nothing else is.
 use Rattle.std.proofs.Common.{◌≡◌, ◌≢◌, filter, ℕ, ◌<◌, ◌⊎◌, ◌++◌, inl, inr, Bool, true, cond, List, [], ◌∷◌, Option, Some, None, IsSome, Contains, Vec, length, get_or, drop, map, suc, ◌+◌, ◌≤◌, refl, sym, ◌∙◌, ap, subst, arith, length-append}
+use Rattle.std.specs.Prelude.{slice_get, IfSome}
 use Rattle.std.specs.BTreeMap.{is_at}
 use Rattle.std.specs.BTreeMap.Range.{range_contains, entries_between}
 use Rattle.std.specs.List.Sorted.{IsStrictlySortedBy}
@@ -29,7 +30,7 @@ use Rattle.partition_content.specs.declared.spots.Spot.{Spot}
 use Rattle.partition_content.specs.declared.spots.Spot.TheVariants.{At, Edge}
 use Rattle.partition_content.specs.Spots.{spot_cmp}
 use Rattle.partition_content.specs.SpotLaws.{spot_total}
-use Rattle.partition_content.specs.Inside.{IsInside, AreInside}
+use Rattle.partition_content.specs.Inside.{IsInside, AreInside, AreNoted}
 use Rattle.partition_content.specs.Keys.{AreKeysOf, keys_for}
 use Rattle.partition_content.specs.Partition.{place_of, place_of_keys}
 use Rattle.partition_content.specs.Reading.{first_row, wide_of}
@@ -272,36 +273,23 @@ inside_step spots front more own lists now l e so_far one is =
     subst (AreInside spots (map place_of_keys more)) (sym is)
     (subst (λ (ps : List Place). AreInside spots ps (lists ++ l ∷ [])) (sym (ap (map place_of_keys) e ∙ map-append place_of_keys front (own ∷ []))) (inside_more spots (map place_of_keys front) lists (place_of_keys own) l so_far one))
 
-inside_count : (spots : List Spot) (ps : List Place) (lists : List (Vec Spot Global)) → AreInside spots ps lists → length lists ≡ length ps
-inside_count spots [] lists none = ap length none
-inside_count spots (p ∷ ps) [] h = absurd h
-inside_count spots (p ∷ ps) (l ∷ lists) h = ap suc (inside_count spots ps lists h.1)
-
-inside_behind : (spots : List Spot) (front rest : List Held) (x : Held) (lists : List (Vec Spot Global)) (l : Vec Spot Global) → AreInside spots (map place_of (front ++ x ∷ rest)) lists → l ≡ get_or lists (length front) l → IsInside spots x.place l.items
-inside_behind spots [] rest x [] l h e = absurd h
-inside_behind spots [] rest x (k ∷ lists) l h e = subst (λ (v : Vec Spot Global). IsInside spots x.place v.items) (sym e) h.0
-inside_behind spots (y ∷ front) rest x [] l h e = absurd h
-inside_behind spots (y ∷ front) rest x (k ∷ lists) l h e = inside_behind spots front rest x lists l h.1 e
+noted_behind : (spots inside : List Spot) (front rest : List Held) (x : Held) (lists : List (Vec Spot Global)) → AreInside spots (map place_of (front ++ x ∷ rest)) lists → IfSome (slice_get lists (length front)) (λ (l : Vec Spot Global). inside ≡ l.items) → IsInside spots x.place inside
+noted_behind spots inside [] rest x [] h e = absurd h
+noted_behind spots inside [] rest x (k ∷ lists) h e = subst (IsInside spots x.place) (sym e) h.0
+noted_behind spots inside (y ∷ front) rest x [] h e = absurd h
+noted_behind spots inside (y ∷ front) rest x (k ∷ lists) h e = noted_behind spots inside front rest x lists h.1 e
 
 split_next : (all front it rest : List Held) (x : Held) → front ++ it ≡ all → it ≡ x ∷ rest → front ++ x ∷ rest ≡ all
 split_next all front it rest x split next = ap (λ (l : List Held). front ++ l) (sym next) ∙ split
 
-pub inside_at : (spots now : List Spot) (all front it rest : List Held) (x : Held) (lists : List (Vec Spot Global)) (at : ℕ) (l : Vec Spot Global) → AreInside spots (map place_of all) lists → now ≡ spots → front ++ it ≡ all → it ≡ x ∷ rest → at ≡ length front → l ≡ get_or lists at l → IsInside now x.place l.items
-inside_at spots now all front it rest x lists at l inside same split next count e =
-    subst (λ (k : List Spot). IsInside k x.place l.items) (sym same)
-    (inside_behind spots front rest x lists l (subst (λ (v : List Held). AreInside spots (map place_of v) lists) (sym (split_next all front it rest x split next)) inside) (e ∙ ap (λ (n : ℕ). get_or lists n l) count))
-
-length-map : (xs : List Held) → length (map place_of xs) ≡ length xs
-length-map [] = refl
-length-map (x ∷ xs) = ap suc (length-map xs)
-
-pub inside_within : (spots : List Spot) (all front it rest : List Held) (x : Held) (lists : List (Vec Spot Global)) (at : ℕ) → AreInside spots (map place_of all) lists → front ++ it ≡ all → it ≡ x ∷ rest → at ≡ length front → at < length lists
-inside_within spots all front it rest x lists at inside split next count =
-    let a = inside_count spots (map place_of all) lists inside in
-    let b = length-map all in
-    let d = ap length split in
-    let e = length-append front it in
-    let f = ap length next in omega (arith, a, b, d, e, f, count)
+-- what was noted of the next change's place
+pub noted_next : (spots now inside : List Spot) (all front it rest : List Held) (x : Held) (lists : List (Vec Spot Global)) (at : ℕ) → AreNoted spots (map place_of all) lists → now ≡ spots → front ++ it ≡ all → it ≡ x ∷ rest → at ≡ length front → IfSome (slice_get lists at) (λ (l : Vec Spot Global). inside ≡ l.items) → IsInside now x.place inside
+noted_next spots now inside all front it rest x lists at (inl noted) same split next count e =
+    subst (λ (k : List Spot). IsInside k x.place inside) (sym same)
+    (noted_behind spots inside front rest x lists (subst (λ (v : List Held). AreInside spots (map place_of v) lists) (sym (split_next all front it rest x split next)) noted)
+    (subst (λ (n : ℕ). IfSome (slice_get lists n) (λ (l : Vec Spot Global). inside ≡ l.items)) count e))
+noted_next spots now inside all front it rest x lists at (inr narrow) same split next count e =
+    λ q h over. absurd (innermost_alone x.place q (narrow x.place (contains_map place_of all x (subst (λ (v : List Held). Contains v x) (split_next all front it rest x split next) (Contains-append_right front (x ∷ rest) x (contains_here x rest))))) over)
 
 -- the keys that memory was taken for are those of their places
 pub keys_of_places : (bare : Bool) (ps : List Place) (ks : List Keys) → ks ≡ map (keys_for bare) ps → (own : Keys) → Contains ks own → AreKeysOf own (place_of_keys own)

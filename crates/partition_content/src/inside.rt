@@ -11,7 +11,7 @@ ghost use Rattle.partition_content.specs.declared.keys.Keys.{Keys as keys_value}
 ghost use Rattle.partition_content.specs.declared.keys.Span.TheVariants.{Row, Rows};
 ghost use Rattle.partition_content.specs.Spots.{spot_cmp};
 ghost use Rattle.partition_content.specs.Keys.{AreKeysOf};
-ghost use Rattle.partition_content.specs.Inside.{IsInside, AreInside};
+ghost use Rattle.partition_content.specs.Inside.{IsInside, AreNoted};
 ghost use Rattle.partition_content.specs.Partition.{place_of_keys};
 ghost use Rattle.partition_content.specs.Reading.{wide_of};
 ghost use Rattle.partition_content.specs.Slots.{helds_in, helds_of, spots_in};
@@ -142,7 +142,7 @@ pub(crate) fn inside_each(
     keys: &[Keys],
 ) -> Result<Vec<Vec<Spot>>, AllocError>
     requires { (own : keys_value) → Contains keys.now own → AreKeysOf own (place_of_keys own) }
-    ensures { IfOk result (λ all. AreInside (spots_in (helds_of slots.now)) (map place_of_keys keys.now) all.items) }
+    ensures { IfOk result (λ all. AreNoted (spots_in (helds_of slots.now)) (map place_of_keys keys.now) all.items) }
 {
     let mut all = Vec::with_capacity(alloc, keys.len())?;
     for own in keys {

@@ -4,7 +4,7 @@ ghost use Rattle.std.specs.Prelude.{◌≡◌, ℕ, List, [], map, ◌&&◌, IfO
 ghost use Rattle.changes.specs.declared.Place.{Place as place_value};
 ghost use Rattle.partition_content.specs.Slots.{stored_of, helds_of, spots_in, HasSlot, IsGood};
 ghost use Rattle.partition_content.specs.Keys.{keys_for};
-ghost use Rattle.partition_content.specs.Inside.{AreInside};
+ghost use Rattle.partition_content.specs.Inside.{AreNoted};
 ghost use Rattle.partition_content.specs.Partition.{place_of, AreSlotsFor, is_narrow as is_narrow_change};
 ghost use Rattle.std.specs.List.{list_all};
 
@@ -15,8 +15,8 @@ use crate::spots::Spot;
 use changes::{Held, Place};
 use std::alloc::{AllocError, Global};
 
-/// Memory that is taken for changes: the keys of their places, for each of these the keys of the tree that lie in it, and
-/// whether no deletion of rows is among these changes and those that are there.
+/// Memory that is taken for changes: the keys of their places, for each of these the keys of the tree that lie in it, unless no
+/// deletion of rows is among them, and whether none is among these changes and those that are there.
 #[derive(Drop)]
 pub(crate) struct Ready {
     pub(crate) bare: bool,
@@ -128,9 +128,12 @@ fn take_all(
     ensures good { IsGood (helds_of slots.new) }
     ensures keys { OnOk result (keys.new.items ≡ map (keys_for bare) (map place_of changes.now)) }
     ensures there { OnOk result (AreSlotsFor (helds_of slots.new) changes.now) }
-    ensures inside { IfOk result (λ inside. AreInside (spots_in (helds_of slots.new)) (map place_of changes.now) inside.items) }
+    ensures inside { IfOk result (λ inside. AreNoted (spots_in (helds_of slots.new)) (map place_of changes.now) inside.items) }
 {
     take_each(slots, alloc, bare, changes, keys)?;
+    if are_narrow(changes) {
+        return Ok(Vec::new(alloc));
+    }
     inside_each(alloc, slots, keys)
 }
 
@@ -147,7 +150,7 @@ pub(crate) fn take_memory(
     ensures bare { IfOk result (λ ready. ready.bare ≡ bare) }
     ensures keys { IfOk result (λ ready. ready.keys.items ≡ map (keys_for bare) (map place_of changes.now)) }
     ensures there { OnOk result (AreSlotsFor (helds_of slots.new) changes.now) }
-    ensures inside { IfOk result (λ ready. AreInside (spots_in (helds_of slots.new)) (map place_of changes.now) ready.inside.items) }
+    ensures inside { IfOk result (λ ready. AreNoted (spots_in (helds_of slots.new)) (map place_of changes.now) ready.inside.items) }
 {
     let mut keys = Vec::with_capacity(alloc, changes.len())?;
     match take_all(slots, alloc, bare, changes, &mut keys) {

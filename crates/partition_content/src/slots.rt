@@ -2,7 +2,7 @@
 
 ghost use Rattle.std.specs.Prelude.{◌≡◌, ◌⊎◌, ◌↔◌, ◌+◌, ◌<◌, ◌≤◌, ◌^◌, ℕ, List, [], true, false, Some, None, IsTrue, IsSome, IfOk, OnOk, OnErr, Contains};
 ghost use Rattle.std.specs.Option.{option_copied};
-ghost use Rattle.std.specs.BTreeMap.{get, keys, is_at};
+ghost use Rattle.std.specs.BTreeMap.{get, keys, is_at, insert_entry, IsOrdered};
 ghost use Rattle.std.specs.declared.cmp.Ordering.TheVariants.{Less};
 ghost use Rattle.std.specs.Map.{set_value};
 ghost use Rattle.std.specs.List.Sorted.{IsStrictlySortedBy};
@@ -46,6 +46,17 @@ pub(crate) fn change_at<'a>(slots: &'a Slots, at: &Spot) -> Option<&'a Held>
     }
 }
 
+/// Has the tree hold this key, with what it holds there, or memory alone.
+fn make_at(slots: &mut Slots, at: Spot) -> Result<(), AllocError>
+    ensures made { OnOk result (slots.new.entries ≡ insert_entry spot_cmp slots.old.entries at (stored_in (get spot_cmp slots.old at))) }
+    ensures ordered { OnOk result (IsOrdered spot_cmp slots.new) }
+    ensures kept { OnErr result (slots.new.entries ≡ slots.old.entries) }
+    ensures was { IsOrdered spot_cmp slots.old }
+{
+    slots.entry(at)?.or_insert(None);
+    Ok(())
+}
+
 /// Takes memory for a change at a key.
 pub(crate) fn make_slot(slots: &mut Slots, alloc: Global, at: &Spot) -> Result<(), AllocError>
     ensures stored { stored_of slots.new.entries ≡ stored_of slots.old.entries }
@@ -54,10 +65,7 @@ pub(crate) fn make_slot(slots: &mut Slots, alloc: Global, at: &Spot) -> Result<(
     ensures filed { AreFiled (helds_in slots.old.entries) → AreFiled (helds_in slots.new.entries) }
     ensures sorted { IsStrictlySortedBy spot_cmp (spots_in (helds_of slots.old)) → IsStrictlySortedBy spot_cmp (spots_in (helds_of slots.new)) }
 {
-    if slots.contains_key(at) {
-        return Ok(());
-    }
-    slots.insert(at.copy(alloc)?, None)?;
+    make_at(slots, at.copy(alloc)?)?;
     Ok(())
 }
 

@@ -1,7 +1,7 @@
 //! How the tree takes in a change: what is there stays exactly where the change doesn't outrank it, and the change is put in
 //! exactly where nothing that is there is it or outranks it.
 
-ghost use Rattle.std.specs.Prelude.{◌≡◌, ◌≢◌, ◌⊎◌, ◌↔◌, ◌+◌, ◌<◌, ◌≤◌, ◌^◌, ℕ, List, [], true, false, Some, None, IsTrue, IsSome, Contains, map};
+ghost use Rattle.std.specs.Prelude.{◌≡◌, ◌≢◌, ◌⊎◌, ◌↔◌, ◌+◌, ◌<◌, ◌≤◌, ◌^◌, ℕ, List, [], true, false, Some, None, IsTrue, IsSome, IfSome, Contains, map, slice_get};
 ghost use Rattle.std.specs.BTreeMap.{keys as keys_in};
 ghost use Rattle.std.specs.List.{sum_by};
 ghost use Rattle.std.specs.List.Sorted.{IsStrictlySortedBy};
@@ -14,7 +14,7 @@ ghost use Rattle.partition_content.specs.Spots.{spot_cmp};
 ghost use Rattle.partition_content.specs.declared.spots.Spot.TheVariants.{At};
 ghost use Rattle.partition_content.specs.Arrivals.{ComeAt};
 ghost use Rattle.partition_content.specs.Slots.{AreCleared, AreLeft, ComesAlone, IsLengthOf, IsNewlyOutranked, is_wide_spot, stored_of, held_in, helds_in, helds_of, spots_in, slot_at, changes_of, change_in, AreFiled, HasSlot, IsReachedAt, IsOutrankedAt, IsOutrankedFrom, IsOutrankedUnder, IsGood};
-ghost use Rattle.partition_content.specs.Inside.{IsInside, AreInside};
+ghost use Rattle.partition_content.specs.Inside.{IsInside, AreNoted};
 ghost use Rattle.partition_content.specs.Keys.{AreKeysOf, keys_for};
 ghost use Rattle.partition_content.specs.Partition.{place_of, AreSlotsFor, AreBare, IsTakenIn};
 
@@ -227,6 +227,16 @@ pub(crate) fn put(
     }
 }
 
+/// The keys that were noted for one of the places.
+fn noted_at(inside: &[Vec<Spot>], at: usize) -> &[Spot]
+    ensures { IfSome (slice_get inside.now at) (λ keys. result.now ≡ keys.items) }
+{
+    match inside.get(at) {
+        Some(keys) => keys.as_slice(),
+        None => &[],
+    }
+}
+
 /// Takes in changes for which there is memory, at a node time, and gives the length that the changes then have.
 pub(crate) fn put_all(
     slots: &mut Slots,
@@ -239,7 +249,7 @@ pub(crate) fn put_all(
     time: Micros,
 ) -> u64
     requires keys { keys.now ≡ map (keys_for bare) (map place_of changes.items) }
-    requires inside { AreInside (spots_in (helds_of slots.old)) (map place_of changes.items) inside.now }
+    requires inside { AreNoted (spots_in (helds_of slots.old)) (map place_of changes.items) inside.now }
     requires slots { AreSlotsFor (helds_of slots.old) changes.items }
     requires good { IsGood (helds_of slots.old) }
     requires length { length ≡ changes_length (changes_of (helds_in slots.old.entries)) }
@@ -254,7 +264,7 @@ pub(crate) fn put_all(
     let mut length = length;
     let mut at = 0;
     for x in changes {
-        length = put(slots, length, alloc, bare, &keys[at], &inside[at], x, time);
+        length = put(slots, length, alloc, bare, &keys[at], noted_at(inside, at), x, time);
         at += 1;
     }
     length

@@ -1,4 +1,4 @@
-use Rattle.std.proofs.Common.{◌+◌, arith, take, map, subst, List}
+use Rattle.std.proofs.Common.{inl, ◌+◌, arith, take, map, subst, List}
 use Rattle.std.proofs.lemmas.List.{take_all}
 use Rattle.cs_base.proofs.Members.{front_more, contains_at}
 use Rattle.partition_content.specs.declared.keys.Keys.{Keys}
@@ -17,4 +17,4 @@ loop-own-preserved c =
     (front_more c.args.keys.now c.loop-own.own-index c.own-item.result (omega arith) c.own-item.is) c.loop-own.invariant c.in_ok-copy_inside.ensures c.in_ok-push.ensures.items
 
 pub returns : goal.returns
-returns c = subst (λ (l : List Keys). AreInside (spots_in (helds_of c.args.slots.now)) (map place_of_keys l) c.loop-own.all.items) (take_all c.loop-own.own-index c.args.keys.now (omega arith)) c.loop-own.invariant
+returns c = inl (subst (λ (l : List Keys). AreInside (spots_in (helds_of c.args.slots.now)) (map place_of_keys l) c.loop-own.all.items) (take_all c.loop-own.own-index c.args.keys.now (omega arith)) c.loop-own.invariant)

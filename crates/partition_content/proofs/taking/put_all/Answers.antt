@@ -3,11 +3,10 @@ use Rattle.std.specs.List.{sum_by}
 use Rattle.std.specs.Vec.Iter.{into_iter_items, into_iter_len}
 use Rattle.changes.specs.Lengths.{held_length}
 use Rattle.change_laws.proofs.Contents.{IsContent-itself}
-use Rattle.partition_content.specs.Inside.{IsInside}
 use Rattle.partition_content.specs.Slots.{changes_of, helds_in, helds_of, spots_in}
 use Rattle.partition_content.proofs.ArrivalLemmas.{come_more, come_at}
 use Rattle.partition_content.proofs.MemoryLemmas.{key_of, key_within, count_more, next_slot, split_more, content_start, content_more, sum_next, content_end, nothing_left, still_bare, front_bare, next_bare}
-use Rattle.partition_content.proofs.SweepLemmas.{inside_at, inside_within}
+use Rattle.partition_content.proofs.SweepLemmas.{noted_next}
 use Rattle.partition_content.proofs.taking.put_all.Goals as goal
 
 pub loop-x-init : goal.loop-x-init
@@ -36,16 +35,6 @@ pub bounds-keys-at : goal.bounds-keys-at
 bounds-keys-at c =
     key_within c.args.bare c.args.keys.now c.args.changes.items c.loop-x.yielded (into_iter_items c.loop-x.x-iterator) (into_iter_items c.next.new.self) c.in-Some.x c.loop-x.at c.requires.keys c.loop-x.invariant.split c.in-Some.ensures.steps.0 c.loop-x.invariant.count
 
-pub offset_bounds-inside-at : goal.offset_bounds-inside-at
-offset_bounds-inside-at c =
-    let within : c.loop-x.at < length c.args.inside.now =
-    inside_within (spots_in (helds_of c.args.slots.now)) c.args.changes.items c.loop-x.yielded (into_iter_items c.loop-x.x-iterator) (into_iter_items c.next.new.self) c.in-Some.x c.args.inside.now c.loop-x.at c.requires.inside c.loop-x.invariant.split c.in-Some.ensures.steps.0 c.loop-x.invariant.count in
-    search rules
-
-pub bounds-inside-at : goal.bounds-inside-at
-bounds-inside-at c =
-    inside_within (spots_in (helds_of c.args.slots.now)) c.args.changes.items c.loop-x.yielded (into_iter_items c.loop-x.x-iterator) (into_iter_items c.next.new.self) c.in-Some.x c.args.inside.now c.loop-x.at c.requires.inside c.loop-x.invariant.split c.in-Some.ensures.steps.0 c.loop-x.invariant.count
-
 pub put-length-requires : goal.put-length-requires
 put-length-requires c =
     let next = sum_next (into_iter_items c.loop-x.x-iterator) (into_iter_items c.next.new.self) c.in-Some.x c.in-Some.ensures.steps.0 in
@@ -54,7 +43,7 @@ put-length-requires c =
     record {
       keys = key_of c.args.bare c.args.keys.now c.args.changes.items c.loop-x.yielded (into_iter_items c.loop-x.x-iterator) (into_iter_items c.next.new.self) c.in-Some.x c.loop-x.at c.index-keys-at.result c.requires.keys c.loop-x.invariant.split c.in-Some.ensures.steps.0 c.loop-x.invariant.count c.index-keys-at.is;
       slot = next_slot (helds_of c.args.slots.now) (helds_of c.loop-x.slots) c.args.changes.items c.loop-x.yielded (into_iter_items c.loop-x.x-iterator) (into_iter_items c.next.new.self) c.in-Some.x c.requires.slots c.loop-x.invariant.same c.loop-x.invariant.split c.in-Some.ensures.steps.0;
-      inside = subst (IsInside (spots_in (helds_of c.loop-x.slots)) c.in-Some.x.place) (sym c.deref.ensures.value) (inside_at (spots_in (helds_of c.args.slots.now)) (spots_in (helds_of c.loop-x.slots)) c.args.changes.items c.loop-x.yielded (into_iter_items c.loop-x.x-iterator) (into_iter_items c.next.new.self) c.in-Some.x c.args.inside.now c.loop-x.at c.index-inside-at.result c.requires.inside c.loop-x.invariant.same c.loop-x.invariant.split c.in-Some.ensures.steps.0 c.loop-x.invariant.count c.index-inside-at.is);
+      inside = noted_next (spots_in (helds_of c.args.slots.now)) (spots_in (helds_of c.loop-x.slots)) c.noted_at.result.now c.args.changes.items c.loop-x.yielded (into_iter_items c.loop-x.x-iterator) (into_iter_items c.next.new.self) c.in-Some.x c.args.inside.now c.loop-x.at c.requires.inside c.loop-x.invariant.same c.loop-x.invariant.split c.in-Some.ensures.steps.0 c.loop-x.invariant.count c.noted_at.ensures;
       good = c.loop-x.invariant.good;
       length = c.loop-x.invariant.long;
       fits = omega (arith, next, fits, long);

@@ -7,7 +7,7 @@ use Rattle.partition_content.specs.declared.Arrived.{Arrived}
 use Rattle.partition_content.specs.Arrivals.{held_of, ComeAt}
 use Rattle.std.specs.declared.alloc.Global.{Global}
 use Rattle.partition_content.specs.declared.spots.Spot.{Spot}
-use Rattle.partition_content.specs.Inside.{AreInside}
+use Rattle.partition_content.specs.Inside.{AreNoted}
 use Rattle.partition_content.specs.Keys.{keys_for}
 use Rattle.partition_content.specs.Slots.{stored_of, changes_of, helds_in, helds_of, spots_in}
 use Rattle.partition_content.specs.Partition.{Partition, changes_in, place_of, places_in, AreSlotsFor, AreBare, IsReady, AreTaken}
@@ -38,8 +38,8 @@ put_all-self-inside-requires-clause-inside c =
     let ready : places_in (Some c.in-Some.ready) ≡ Some (map place_of c.args.incoming) =
     ap places_in (sym was) ∙ ap (λ (p : Partition). p.ready) c.self.view_is ∙ c.requires.places in
     let taken : IsReady (helds_of c.self.inside.slots) c.in-Some.ready = subst (AreTaken (helds_of c.self.inside.slots)) was c.self.invariant.taken in
-    subst (λ (l : List (Vec Spot Global)). AreInside (spots_in (helds_of c.self.inside.slots)) (map place_of c.into_changes.result.items) l) (sym c.deref-in-Some.ensures.value)
-    (subst (λ (l : List Held). AreInside (spots_in (helds_of c.self.inside.slots)) (map place_of l) c.in-Some.ready.inside.items) (sym c.into_changes.ensures.value) (ready_inside (helds_of c.self.inside.slots) c.in-Some.ready c.args.incoming taken ready))
+    subst (λ (l : List (Vec Spot Global)). AreNoted (spots_in (helds_of c.self.inside.slots)) (map place_of c.into_changes.result.items) l) (sym c.deref-in-Some.ensures.value)
+    (subst (λ (l : List Held). AreNoted (spots_in (helds_of c.self.inside.slots)) (map place_of l) c.in-Some.ready.inside.items) (sym c.into_changes.ensures.value) (ready_inside (helds_of c.self.inside.slots) c.in-Some.ready c.args.incoming taken ready))
 
 pub put_all-self-inside-requires-clause-narrow : goal.put_all-self-inside-requires-clause-narrow
 put_all-self-inside-requires-clause-narrow c =
