@@ -23,7 +23,7 @@ use Rattle.partition_content.specs.declared.spots.Spot.TheVariants.{At}
 use Rattle.partition_content.specs.Spots.{spot_cmp}
 use Rattle.partition_content.specs.SpotLaws.{spot_total}
 use Rattle.cell_merge.specs.Parts.{IsInnermost}
-use Rattle.partition_content.specs.Slots.{changes_of, AreFiled, IsCleared, AreCleared, OutranksOnlyAt, IsCountedWith, IsLengthOf, IsNewlyOutranked}
+use Rattle.partition_content.specs.Slots.{changes_of, AreFiled, IsCleared, AreCleared, OutranksOnlyAt, IsCountedWith, IsLengthOf}
 use Rattle.partition_content.proofs.SlotLemmas.{IsLostWith, AreLost, sum_changes}
 use Rattle.partition_content.proofs.SpotLemmas.{key_exact}
 use Rattle.partition_content.proofs.OrderLemmas.{key_at}

@@ -1,9 +1,9 @@
 -- What a change takes away is found in the keys that lie in its place.
-use Rattle.std.proofs.Common.{◌≡◌, ◌≢◌, ℕ, ◌+◌, ◌≤◌, ◌⊎◌, ◌↔◌, IsTrue, inl, inr, Bool, true, false, cond, not, ◌&&◌, filter, List, [], ◌∷◌, Option, Some, None, Contains, refl, sym, ◌∙◌, ap, subst, arith}
+use Rattle.std.proofs.Common.{◌≡◌, ◌≢◌, ℕ, ◌+◌, ◌⊎◌, ◌↔◌, IsTrue, inl, inr, Bool, true, false, cond, not, ◌&&◌, filter, List, [], ◌∷◌, Option, Some, None, Contains, refl, sym, ◌∙◌, ap, subst, arith}
 use Rattle.std.specs.BTreeMap.Range.{range_contains, entries_between}
 use Rattle.std.specs.Ordering.{is_le, is_lt, ordering_reverse}
 use Rattle.std.specs.declared.cmp.Ordering.{Ordering}
-use Rattle.std.specs.declared.cmp.Ordering.TheVariants.{Less, Equal, Greater}
+use Rattle.std.specs.declared.cmp.Ordering.TheVariants.{Less, Greater}
 use Rattle.std.specs.declared.ops.Bound.TheVariants.{Included, Excluded, Unbounded}
 use Rattle.std.proofs.lemmas.Bool.{false≢true}
 use Rattle.std.proofs.lemmas.Cmp.{tied_itself}
@@ -11,28 +11,26 @@ use Rattle.changes.specs.declared.Bound.{Bound}
 use Rattle.changes.specs.declared.Held.{Held}
 use Rattle.changes.specs.declared.Place.{Place}
 use Rattle.changes.specs.declared.Place.TheVariants.{Cell, Marker, RowGone, RangeGone, PartGone}
-use Rattle.changes.specs.Lengths.{held_length}
-use Rattle.changes.specs.Order.{Outranks, Encloses, IsBetween, row_of, row_signs, bound_signs, signs_cmp}
+use Rattle.changes.specs.Order.{Outranks, Encloses, IsBetween, row_of, row_signs, signs_cmp}
 use Rattle.changes.proofs.Ranks.{above}
 use Rattle.cell_merge.specs.Parts.{IsInnermost}
 use Rattle.cs_base.proofs.Members.{contains_nil, contains_here, contains_there}
 use Rattle.partition_content.specs.declared.keys.Keys.{Keys}
 use Rattle.partition_content.specs.declared.keys.Span.{Span}
-use Rattle.partition_content.specs.declared.keys.Span.TheVariants.{Alone, Under, Row, Rows, All}
+use Rattle.partition_content.specs.declared.keys.Span.TheVariants.{Alone, Under, Row, Rows}
 use Rattle.partition_content.specs.declared.spots.Spot.{Spot}
 use Rattle.partition_content.specs.declared.spots.Spot.TheVariants.{At, Edge}
 use Rattle.partition_content.specs.Spots.{spot_cmp}
 use Rattle.partition_content.specs.SpotLaws.{spot_total}
 use Rattle.partition_content.specs.Keys.{AreKeysOf, span_for}
 use Rattle.partition_content.specs.Reading.{first_row, wide_of}
-use Rattle.partition_content.specs.Slots.{changes_of, AreFiled, IsCountedWith, IsLengthOf, IsNewlyOutranked}
+use Rattle.partition_content.specs.Slots.{AreFiled, IsCountedWith, IsLengthOf, IsNewlyOutranked}
 use Rattle.partition_content.proofs.SpotLemmas.{edge_stands, edge_above}
 use Rattle.partition_content.proofs.SlotLemmas.{AreLost}
 use Rattle.partition_content.proofs.ReachLemmas.{before_rows}
 use Rattle.partition_content.proofs.ReadLemmas.{row_passes, both_pass, passes}
-use Rattle.partition_content.proofs.RowLemmas.{passed, lost_filtered, row_inside, row_deletion, key_at}
+use Rattle.partition_content.proofs.RowLemmas.{passed, lost_filtered, row_inside, row_deletion}
 use Rattle.partition_content.proofs.ClearLemmas.{only_own}
-use Rattle.partition_content.proofs.ContentLemmas.{lost_most}
 
 abbrev Entry : Type 0
 Entry = Spot × Option Held

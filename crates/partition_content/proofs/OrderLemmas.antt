@@ -20,7 +20,7 @@ use Rattle.partition_content.specs.declared.spots.Spot.TheVariants.{At}
 use Rattle.partition_content.specs.Spots.{spot_cmp}
 use Rattle.partition_content.specs.SpotLaws.{spot_total}
 use Rattle.partition_content.specs.declared.Arrived.{Arrived}
-use Rattle.partition_content.specs.Slots.{SlotMap, stored_of, stored_in, held_in, helds_in, changes_of, AreFiled, IsGood, spots_in}
+use Rattle.partition_content.specs.Slots.{SlotMap, stored_of, stored_in, changes_of, AreFiled, IsGood, spots_in}
 use Rattle.partition_content.proofs.SpotLemmas.{key_exact}
 use Rattle.partition_content.proofs.SlotLemmas.{at_place}
 

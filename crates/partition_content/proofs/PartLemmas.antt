@@ -1,5 +1,5 @@
 -- What is kept of the changes that are held, and what of others comes to them, make up the content of both.
-use Rattle.std.proofs.Common.{◌≡◌, ℕ, ◌+◌, ◌≤◌, ◌<◌, ◌-◌, ◌⊎◌, inl, inr, List, [], ◌∷◌, ◌++◌, length, take, drop, get_or, Option, Some, None, Contains, refl, sym, ◌∙◌, ap, subst, arith, append-nil, append_assoc}
+use Rattle.std.proofs.Common.{◌≡◌, ℕ, ◌+◌, ◌≤◌, ◌<◌, ◌-◌, ◌⊎◌, inl, inr, List, [], ◌∷◌, ◌++◌, length, take, drop, get_or, Option, Some, None, Contains, refl, sym, ◌∙◌, ap, subst, arith}
 use Rattle.std.specs.List.{sum_by}
 use Rattle.std.specs.Option.{option_to_list}
 use Rattle.std.specs.declared.cmp.Ordering.TheVariants.{Less}
@@ -20,7 +20,7 @@ use Rattle.partition_content.specs.declared.spots.Spot.{Spot}
 use Rattle.partition_content.specs.Slots.{changes_of, IsCountedWith, IsLengthOf, IsNewlyOutranked}
 use Rattle.partition_content.specs.Lengths.{IsMergedLength, IsGainedWith, AreOnce, IsPartLength}
 use Rattle.partition_content.proofs.SlotLemmas.{sum_changes}
-use Rattle.partition_content.proofs.ToldLemmas.{below_next, split_at}
+use Rattle.partition_content.proofs.ToldLemmas.{split_at}
 
 -- ---- one change more
 

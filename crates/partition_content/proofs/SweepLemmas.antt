@@ -1,5 +1,5 @@
 -- What a deletion outranks is taken out key by key, and nothing else is.
-use Rattle.std.proofs.Common.{◌≡◌, ◌≢◌, filter, ℕ, ◌<◌, ◌⊎◌, ◌++◌, inl, inr, Bool, true, cond, List, [], ◌∷◌, Option, Some, None, IsSome, Contains, Vec, length, get_or, drop, map, suc, ◌+◌, ◌≤◌, refl, sym, ◌∙◌, ap, subst, arith, length-append}
+use Rattle.std.proofs.Common.{◌≡◌, ◌≢◌, filter, ℕ, ◌<◌, ◌⊎◌, ◌++◌, inl, inr, Bool, true, cond, List, [], ◌∷◌, Option, Some, None, IsSome, Contains, Vec, length, get_or, drop, map, ◌+◌, ◌≤◌, refl, sym, ◌∙◌, ap, subst}
 use Rattle.std.specs.Prelude.{slice_get, IfSome}
 use Rattle.std.specs.BTreeMap.{is_at}
 use Rattle.std.specs.BTreeMap.Range.{range_contains, entries_between}
@@ -14,11 +14,10 @@ use Rattle.std.proofs.lemmas.Cmp.{eq_by_cmp_equiv}
 use Rattle.std.proofs.lemmas.List.{map-append, drop_more, drop_all}
 use Rattle.std.proofs.lemmas.Map.{keys-set_value}
 use Rattle.std.proofs.lemmas.Map.Keys.{IsDistinct-from_sorted}
-use Rattle.std.proofs.lemmas.Map.Views.{lookup-from_Contains, IsSome-lookup_from_Contains}
-use Rattle.changes.specs.declared.Bound.{Bound}
+use Rattle.std.proofs.lemmas.Map.Views.{lookup-from_Contains}
 use Rattle.changes.specs.declared.Held.{Held}
 use Rattle.changes.specs.declared.Place.{Place}
-use Rattle.changes.specs.declared.Place.TheVariants.{RowGone, RangeGone}
+use Rattle.changes.specs.declared.Place.TheVariants.{RowGone}
 use Rattle.changes.specs.Order.{Outranks, Encloses}
 use Rattle.changes.proofs.Ranks.{above}
 use Rattle.cs_base.proofs.Members.{contains_nil, contains_here, contains_there, contains_cases, contains_map, contains_from_map}
@@ -34,10 +33,10 @@ use Rattle.partition_content.specs.Inside.{IsInside, AreInside, AreNoted}
 use Rattle.partition_content.specs.Keys.{AreKeysOf, keys_for}
 use Rattle.partition_content.specs.Partition.{place_of, place_of_keys}
 use Rattle.partition_content.specs.Reading.{first_row, wide_of}
-use Rattle.partition_content.specs.Slots.{stored_in, stored_of, held_in, helds_in, helds_of, SlotTree, spots_in, IsGood, IsCleared, AreCleared, AreFiled, IsClearedFrom, IsClearedAt, AreLeft, AreOutrankedAmong}
-use Rattle.partition_content.proofs.HeldLemmas.{helds-keys, helds-found, helds-set_value, slot_there}
+use Rattle.partition_content.specs.Slots.{stored_in, stored_of, held_in, helds_in, helds_of, SlotTree, spots_in, IsGood, IsCleared, AreCleared, IsClearedFrom, IsClearedAt, AreLeft, AreOutrankedAmong}
+use Rattle.partition_content.proofs.HeldLemmas.{helds-found, helds-set_value, slot_there}
 use Rattle.partition_content.proofs.ArrivalLemmas.{set_stored, stored_found}
-use Rattle.partition_content.proofs.SlotLemmas.{left_in, at_place}
+use Rattle.partition_content.proofs.SlotLemmas.{left_in}
 use Rattle.partition_content.proofs.OrderLemmas.{to_filter}
 use Rattle.partition_content.proofs.ReachLemmas.{before_rows, innermost_alone}
 use Rattle.partition_content.proofs.ReadLemmas.{row_passes}

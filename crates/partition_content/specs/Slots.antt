@@ -1,5 +1,5 @@
 -- The tree that keeps the changes of a partition: at a key a change with its arrival, or memory for one.
-use Rattle.std.specs.Prelude.{◌≡◌, ◌≢◌, ℕ, ◌⊎◌, ◌+◌, List, [], ◌∷◌, Option, Some, None, Contains, map, flat_map, Bool, true, false, not, is_some}
+use Rattle.std.specs.Prelude.{◌≡◌, ◌≢◌, ℕ, ◌⊎◌, ◌+◌, List, [], ◌∷◌, Option, Some, None, Contains, map, flat_map, Bool, false, not, is_some}
 use Rattle.std.specs.Option.{option_to_list}
 use Rattle.std.specs.BTreeMap.{BTreeMap, is_at}
 use Rattle.std.specs.Map.{keys_of, lookup, set_value}

@@ -1,6 +1,5 @@
-use Rattle.std.proofs.Common.{◌≡◌, ◌∙◌, ◌+◌, ◌∷◌, arith, refl, sym, subst, List, drop, []}
+use Rattle.std.proofs.Common.{◌∙◌, ◌+◌, arith, refl, sym, subst, drop}
 use Rattle.std.specs.List.Sorted.{IsStrictlySortedBy}
-use Rattle.partition_content.specs.declared.spots.Spot.{Spot}
 use Rattle.partition_content.specs.Spots.{spot_cmp}
 use Rattle.partition_content.specs.Slots.{helds_in, AreOutrankedAmong}
 use Rattle.partition_content.proofs.SweepLemmas.{clears_more, cleared_left, cleared_spots, among_rest, all_cleared, next_key, no_key}

@@ -1,12 +1,11 @@
-use Rattle.std.proofs.Common.{◌∙◌, ◌++◌, ap, sym, List, Option}
+use Rattle.std.proofs.Common.{◌∙◌, ◌++◌, ap, List, Option}
 use Rattle.std.specs.Map.{keys_of}
 use Rattle.std.specs.BTreeMap.Range.{entries_between}
 use Rattle.std.specs.declared.ops.Bound.TheVariants.{Excluded}
 use Rattle.changes.specs.declared.Held.{Held}
 use Rattle.partition_content.specs.declared.spots.Spot.{Spot}
-use Rattle.partition_content.specs.Partition.{place_of_keys}
 use Rattle.partition_content.specs.Spots.{spot_cmp}
-use Rattle.partition_content.specs.Slots.{helds_in, helds_of, spots_in}
+use Rattle.partition_content.specs.Slots.{helds_in}
 use Rattle.partition_content.proofs.SweepLemmas.{added_keys}
 use Rattle.partition_content.proofs.inside.copy_ahead.Goals as goal
 

@@ -1,11 +1,5 @@
-use Rattle.std.proofs.Common.{◌≡◌, ◌++◌, ◌∙◌, ap, sym, inl, inr, List, Option}
-use Rattle.std.specs.Map.{keys_of}
-use Rattle.std.specs.BTreeMap.Range.{entries_between}
+use Rattle.std.proofs.Common.{◌∙◌, sym, inl, inr}
 use Rattle.std.specs.declared.cmp.Ordering.TheVariants.{Equal, Greater}
-use Rattle.std.specs.declared.ops.Bound.TheVariants.{Excluded}
-use Rattle.changes.specs.declared.Held.{Held}
-use Rattle.partition_content.specs.declared.spots.Spot.{Spot}
-use Rattle.partition_content.specs.Spots.{spot_cmp}
 use Rattle.partition_content.specs.Slots.{helds_in}
 use Rattle.partition_content.proofs.SweepLemmas.{no_keys}
 use Rattle.partition_content.proofs.inside.copy_between.Goals as goal

@@ -3,9 +3,6 @@ use Rattle.std.specs.List.{sum_by}
 use Rattle.std.proofs.lemmas.List.{take_all}
 use Rattle.changes.specs.declared.Held.{Held}
 use Rattle.changes.specs.Lengths.{held_length}
-use Rattle.cs_base.proofs.Members.{front_more}
-use Rattle.partition_content.specs.declared.keys.Keys.{Keys}
-use Rattle.partition_content.specs.Keys.{AreKeysOf}
 use Rattle.partition_content.specs.Slots.{changes_of, helds_in, IsLengthOf, IsNewlyOutranked}
 use Rattle.partition_content.proofs.MemoryLemmas.{key_of, key_within}
 use Rattle.partition_content.proofs.OrderLemmas.{changes_in_order}

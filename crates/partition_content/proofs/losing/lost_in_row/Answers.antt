@@ -1,12 +1,11 @@
-use Rattle.std.proofs.Common.{◌∙◌, ap, sym, subst, arith, List, Option}
+use Rattle.std.proofs.Common.{ap, subst, arith, List, Option}
 use Rattle.std.specs.BTreeMap.Range.{range_contains}
 use Rattle.std.specs.List.{sum_by}
-use Rattle.std.specs.declared.ops.Bound.TheVariants.{Included, Excluded, Unbounded}
+use Rattle.std.specs.declared.ops.Bound.TheVariants.{Included, Excluded}
 use Rattle.changes.specs.declared.Held.{Held}
 use Rattle.changes.specs.Lengths.{held_length}
 use Rattle.partition_content.specs.declared.spots.Spot.{Spot}
 use Rattle.partition_content.specs.Spots.{spot_cmp}
-use Rattle.partition_content.specs.Reading.{first_row}
 use Rattle.partition_content.specs.Slots.{changes_of, helds_in, IsLengthOf, IsNewlyOutranked}
 use Rattle.partition_content.proofs.RowLemmas.{sum_filtered}
 use Rattle.partition_content.proofs.LossLemmas.{row_lengths}

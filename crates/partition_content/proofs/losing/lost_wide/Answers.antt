@@ -1,7 +1,7 @@
-use Rattle.std.proofs.Common.{◌∙◌, ap, sym, subst, arith, List, Option}
+use Rattle.std.proofs.Common.{ap, subst, arith, List, Option}
 use Rattle.std.specs.BTreeMap.Range.{range_contains}
 use Rattle.std.specs.List.{sum_by}
-use Rattle.std.specs.declared.ops.Bound.TheVariants.{Included, Excluded, Unbounded}
+use Rattle.std.specs.declared.ops.Bound.TheVariants.{Excluded, Unbounded}
 use Rattle.changes.specs.declared.Held.{Held}
 use Rattle.changes.specs.Lengths.{held_length}
 use Rattle.partition_content.specs.declared.spots.Spot.{Spot}

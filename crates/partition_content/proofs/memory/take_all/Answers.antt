@@ -1,4 +1,4 @@
-use Rattle.std.proofs.Common.{◌∙◌, inl, inr, map, sym, subst, List, IfOk}
+use Rattle.std.proofs.Common.{◌∙◌, inr, map, sym, subst, List, IfOk}
 use Rattle.changes.specs.declared.Place.{Place}
 use Rattle.cell_merge.specs.Parts.{IsInnermost}
 use Rattle.cs_base.proofs.Members.{contains_from_map}

@@ -1,4 +1,4 @@
-use Rattle.std.proofs.Common.{◌≡◌, ◌<◌, sym, subst, arith, inl, refl, ◌∙◌, ap, [], length, rules}
+use Rattle.std.proofs.Common.{◌≡◌, ◌<◌, arith, inl, refl, ◌∙◌, ap, [], length, rules}
 use Rattle.std.specs.List.{sum_by}
 use Rattle.std.specs.Vec.Iter.{into_iter_items, into_iter_len}
 use Rattle.changes.specs.Lengths.{held_length}
