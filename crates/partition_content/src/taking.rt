@@ -264,7 +264,16 @@ pub(crate) fn put_all(
     let mut length = length;
     let mut at = 0;
     for x in changes {
-        length = put(slots, length, alloc, bare, &keys[at], noted_at(inside, at), x, time);
+        length = put(
+            slots,
+            length,
+            alloc,
+            bare,
+            &keys[at],
+            noted_at(inside, at),
+            x,
+            time,
+        );
         at += 1;
     }
     length
