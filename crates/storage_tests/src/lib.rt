@@ -4,4 +4,6 @@
 #[cfg(test)]
 mod commit_logs;
 #[cfg(test)]
+mod list_replicas;
+#[cfg(test)]
 mod stores;
