@@ -1,6 +1,7 @@
 //! Commits to a list replica whose store fails or stops at each call, and logs that are cut or changed.
 
 ghost use Rattle.std.specs.Prelude.{◌≤◌, IfOk, IsTrue};
+ghost use Rattle.cs_store.specs.Mem.{IsAllSettled, IsSameDisk};
 ghost use Rattle.row_change.specs.Spelling.{EntryFits};
 
 use cell_merge::Content;
@@ -129,8 +130,54 @@ fn cells<R: Replica>(replica: &mut R, alloc: Global) -> Result<Content, Fail>
     }
 }
 
-/// Commits the entries to a store at whose call of this number, those of the load counted too, a fault comes, and loads what a
-/// crash leaves: how many entries were acknowledged, and what is kept then.
+/// Lets a fault come at the call of this number.
+fn let_come(store: &mut MemStore, call: u32, fails: bool, outcome: Outcome)
+    requires { 1 ≤ call }
+    ensures { IsSameDisk store.old store.new }
+{
+    if fails {
+        store.fail_at(call);
+    } else {
+        store.stop_at(call, outcome);
+    }
+}
+
+/// A store at whose call of this number a fault comes.
+fn faulty(alloc: Global, call: u32, fails: bool, outcome: Outcome) -> Result<MemStore, Fail>
+    requires { 1 ≤ call }
+    ensures { IfOk result IsAllSettled }
+{
+    let mut store = MemStore::formatted(alloc)?;
+    let_come(&mut store, call, fails, outcome);
+    Ok(store)
+}
+
+/// Loads a store and commits the entries to it, until a call fails: how many are acknowledged, and the store.
+fn commit_all(alloc: Global, store: MemStore) -> Result<(usize, MemStore), Fail>
+    requires { IsAllSettled store }
+{
+    match ListReplica::load(alloc, store) {
+        Ok((mut replica, _)) => {
+            let acknowledged = commit_each(&mut replica, alloc, &STEPS)?;
+            Ok((acknowledged, replica.release()))
+        }
+        Err(LoadError::Failed(store)) => Ok((0, store)),
+        Err(_) => Err("not loaded".into()),
+    }
+}
+
+/// What is kept after a crash.
+fn left(alloc: Global, store: MemStore, outcome: Outcome) -> Result<String, Fail> {
+    let mut store = store;
+    store.crash(outcome);
+    match ListReplica::load(alloc, store) {
+        Ok((mut replica, kept)) => shown(&mut replica, alloc, &kept),
+        Err(_) => Err("not loaded again".into()),
+    }
+}
+
+/// Commits the entries to a store at whose call of this number, those of the load counted too, a fault comes: how many are
+/// acknowledged, and what a crash leaves.
 fn try_fault(
     alloc: Global,
     call: u32,
@@ -139,22 +186,14 @@ fn try_fault(
 ) -> Result<(usize, String), Fail>
     requires { 1 ≤ call }
 {
-    let mut store = MemStore::formatted(alloc)?;
-    if fails {
-        store.fail_at(call);
-    } else {
-        store.stop_at(call, outcome);
-    }
-    let Ok((mut replica, _)) = ListReplica::load(alloc, store) else {
-        return Err("not loaded".into());
-    };
-    let acknowledged = commit_each(&mut replica, alloc, &STEPS)?;
-    let mut store = replica.release();
-    store.crash(outcome);
-    let Ok((mut replica, kept)) = ListReplica::load(alloc, store) else {
-        return Err("not loaded again".into());
-    };
-    Ok((acknowledged, shown(&mut replica, alloc, &kept)?))
+    let store = faulty(alloc, call, fails, outcome)?;
+    let (acknowledged, store) = commit_all(alloc, store)?;
+    Ok((acknowledged, left(alloc, store, outcome)?))
+}
+
+/// How many entries are acknowledged before this call: the load takes four calls, and each commit four.
+fn acknowledged_before(call: u32) -> usize {
+    (call.saturating_sub(5) / 4) as usize
 }
 
 /// Whether what is kept is that of the acknowledged entries, or of these and the next one.
@@ -164,28 +203,28 @@ fn is_front(acknowledged: usize, text: &str) -> bool {
 
 #[test]
 fn a_commit_that_fails_is_there_whole_or_not(rt: HostRuntime) -> Result<(), Fail> {
-    for call in 5..=17 {
+    // At the last of these calls all is done.
+    for call in 1..=17 {
         for outcome in [Outcome::Kept, Outcome::Lost, Outcome::Torn] {
             for fails in [true, false] {
                 let (acknowledged, text) = try_fault(rt.alloc(), call, fails, outcome)?;
+                assert_eq!(rt; acknowledged, acknowledged_before(call), "{call} {outcome:?}");
                 assert!(rt;
                     is_front(acknowledged, text.as_str()),
                     "{call} {outcome:?}: {text}"
                 );
-                // The load takes four calls, and each commit four.
-                assert_eq!(rt; acknowledged, ((call - 5) / 4) as usize);
             }
         }
     }
     Ok(())
 }
 
-/// Whether a store with these bytes as its log is loaded, or the log is damaged.
-fn is_loaded_or_damaged(
+/// Whether a store with these bytes as its log is loaded: not where the log is damaged, and nothing where there is another answer.
+fn is_loaded(
     alloc: Global,
     store: MemStore,
     bytes: &[u8],
-) -> Result<(bool, MemStore), Fail> {
+) -> Result<(Option<bool>, MemStore), Fail> {
     let mut store = store;
     let f = FileNo::new(0).ok_or("a file")?;
     store.reserve(f, bytes.len() as u64)?;
@@ -193,10 +232,10 @@ fn is_loaded_or_damaged(
     store.write_at(f, 0, bytes)?;
     store.crash(Outcome::Kept);
     match ListReplica::load(alloc, store) {
-        Ok((replica, _)) => Ok((true, replica.release())),
-        Err(LoadError::Damaged(store, _, _)) => Ok((true, store)),
-        Err(LoadError::Failed(store)) => Ok((false, store)),
-        Err(LoadError::NoMemory(store)) => Ok((false, store)),
+        Ok((replica, _)) => Ok((Some(true), replica.release())),
+        Err(LoadError::Damaged(store, _, _)) => Ok((Some(false), store)),
+        Err(LoadError::Failed(store)) => Ok((None, store)),
+        Err(LoadError::NoMemory(store)) => Ok((None, store)),
     }
 }
 
@@ -210,31 +249,55 @@ fn small_log(alloc: Global) -> Result<Vec<u8>, Fail> {
 }
 
 #[test]
-fn each_front_of_a_log_is_loaded_or_damaged(rt: HostRuntime) -> Result<(), Fail> {
+fn a_log_that_is_cut_is_damaged(rt: HostRuntime) -> Result<(), Fail> {
     let alloc = rt.alloc();
     let log = small_log(alloc)?;
     let mut store = MemStore::formatted(alloc)?;
     for n in 0..=log.len() {
-        let (right, left) = is_loaded_or_damaged(alloc, store, &log.as_slice()[..n])?;
-        assert!(rt; right, "{n}");
+        let (answer, left) = is_loaded(alloc, store, &log.as_slice()[..n])?;
+        assert_eq!(rt; answer, Some(n == log.len()), "{n}");
         store = left;
     }
     Ok(())
 }
 
+/// The bytes with byte n changed.
+fn changed(alloc: Global, bytes: &[u8], n: usize, change: u8) -> Result<Vec<u8>, Fail> {
+    let mut bytes = Vec::from_slice(alloc, bytes)?;
+    if let Some(slot) = bytes.as_mut_slice().get_mut(n) {
+        *slot ^= change;
+    }
+    Ok(bytes)
+}
+
+/// Whether with each change of byte n the log is loaded or damaged.
+fn changes_are_right(
+    alloc: Global,
+    store: MemStore,
+    log: &[u8],
+    n: usize,
+) -> Result<(bool, MemStore), Fail> {
+    let mut store = store;
+    for change in 1..=255u8 {
+        let bytes = changed(alloc, log, n, change)?;
+        let (answer, left) = is_loaded(alloc, store, bytes.as_slice())?;
+        if answer.is_none() {
+            return Ok((false, left));
+        }
+        store = left;
+    }
+    Ok((true, store))
+}
+
 #[test]
-fn each_changed_log_is_loaded_or_damaged(rt: HostRuntime) -> Result<(), Fail> {
+fn a_log_with_a_changed_byte_is_loaded_or_damaged(rt: HostRuntime) -> Result<(), Fail> {
     let alloc = rt.alloc();
-    let mut log = small_log(alloc)?;
+    let log = small_log(alloc)?;
     let mut store = MemStore::formatted(alloc)?;
     for n in 0..log.len() {
-        for change in 1..=255u8 {
-            log.as_mut_slice()[n] ^= change;
-            let (right, left) = is_loaded_or_damaged(alloc, store, log.as_slice())?;
-            assert!(rt; right, "{n} by {change}");
-            store = left;
-            log.as_mut_slice()[n] ^= change;
-        }
+        let (right, left) = changes_are_right(alloc, store, log.as_slice(), n)?;
+        assert!(rt; right, "{n}");
+        store = left;
     }
     Ok(())
 }
