@@ -208,7 +208,11 @@ fn a_commit_that_fails_is_there_whole_or_not(rt: HostRuntime) -> Result<(), Fail
         for outcome in [Outcome::Kept, Outcome::Lost, Outcome::Torn] {
             for fails in [true, false] {
                 let (acknowledged, text) = try_fault(rt.alloc(), call, fails, outcome)?;
-                assert_eq!(rt; acknowledged, acknowledged_before(call), "{call} {outcome:?}");
+                assert_eq!(rt;
+                    acknowledged,
+                    acknowledged_before(call),
+                    "{call} {outcome:?}"
+                );
                 assert!(rt;
                     is_front(acknowledged, text.as_str()),
                     "{call} {outcome:?}: {text}"
@@ -219,7 +223,7 @@ fn a_commit_that_fails_is_there_whole_or_not(rt: HostRuntime) -> Result<(), Fail
     Ok(())
 }
 
-/// Whether a store with these bytes as its log is loaded: not where the log is damaged, and nothing where there is another answer.
+/// Whether a store with these bytes as its log is loaded. It isn't where the log is damaged; another answer gives nothing.
 fn is_loaded(
     alloc: Global,
     store: MemStore,
