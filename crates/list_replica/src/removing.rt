@@ -52,6 +52,7 @@ fn without(
 ) -> Result<PartitionContent, AllocError>
     ensures { IfOk result (λ rest. IsWithout held.now content.now.stored rest.stored) }
 {
+    // Its clause tells that what is stored is in order, and that nothing there outranks another.
     let _ = content.encoded_length();
     let mut rest = PartitionContent::new(alloc);
     for arrived in others(content, alloc, held)? {
