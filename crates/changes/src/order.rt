@@ -212,7 +212,8 @@ fn is_between(from: &Bound, upto: &Bound, row: &[u8]) -> bool
     from.is_before(row) && upto.is_behind(row)
 }
 
-/// The order of places that are not in one row.
+/// The order of places that are not in one row. Most places are: kept out of their comparison, which stays small.
+#[inline(never)]
 fn wide_order(a: &Place, b: &Place) -> Ordering
     requires first { row_of a.now ≡ None }
     requires second { row_of b.now ≡ None }
@@ -220,7 +221,11 @@ fn wide_order(a: &Place, b: &Place) -> Ordering
 {
     match (a, b) {
         (Place::RangeGone(from, upto), Place::RangeGone(start, end)) => {
-            from.cmp(start).then(upto.cmp(end))
+            match from.cmp(start) {
+                Ordering::Equal => upto.cmp(end),
+                Ordering::Less => Ordering::Less,
+                Ordering::Greater => Ordering::Greater,
+            }
         }
         (Place::RangeGone(_, _), _) => Ordering::Greater,
         (_, Place::RangeGone(_, _)) => Ordering::Less,
@@ -282,7 +287,11 @@ impl Ord for Place {
 
     fn cmp(&self, other: &Place) -> Ordering {
         match (self.row(), other.row()) {
-            (Some(row), Some(beside)) => row.cmp(beside).then(self.step().cmp(&other.step())),
+            (Some(row), Some(beside)) => match row.cmp(beside) {
+                Ordering::Equal => self.step().cmp(&other.step()),
+                Ordering::Less => Ordering::Less,
+                Ordering::Greater => Ordering::Greater,
+            },
             (Some(_), None) => Ordering::Greater,
             (None, Some(_)) => Ordering::Less,
             (None, None) => wide_order(self, other),

@@ -5,7 +5,7 @@ use changes::{Bound, Mutation, Partition, Query, ShownCell, ShownRow, ShownRows}
 use chronicle_print::print_chronicle;
 use cs_base::{Bytes, Items, Level, Micros, NodeId, ReqId, Text};
 use peer_messages::{Entry, Grounds, Invalid, Refusal};
-use schema_book::Schema;
+use schema_book::{Schema, Table};
 use statement_plan::{Columns, Fault, Feature};
 use std::alloc::Global;
 use std::test::Fail;
@@ -156,6 +156,22 @@ fn add_late(alloc: Global, entries: &mut Vec<Entry>) -> Result<(), Fail> {
     Ok(())
 }
 
+/// These entries in print, in pieces of two behind an empty one.
+fn printed(alloc: Global, tables: &[Table], entries: Vec<Entry>) -> Result<Vec<u8>, Fail> {
+    let mut pieces = Vec::new(alloc);
+    let mut piece = Items::new(alloc);
+    pieces.push(Items::new(alloc))?;
+    for entry in entries {
+        piece.push(entry)?;
+        if piece.as_slice().len() == 2 {
+            pieces.push(piece)?;
+            piece = Items::new(alloc);
+        }
+    }
+    pieces.push(piece)?;
+    Ok(print_chronicle(alloc, tables, &pieces)?)
+}
+
 const PRINTED: &[u8] = b"1 ok
 2 unavailable required 2 alive 1
 3 rows 2
@@ -181,10 +197,17 @@ fn prints_a_chronicle(rt: HostRuntime) -> Result<(), Fail> {
     add_count(alloc, &mut entries)?;
     add_late(alloc, &mut entries)?;
     let schema = schema(alloc)?;
-    let text = print_chronicle(alloc, schema.tables(), &entries)?;
+    let text = printed(alloc, schema.tables(), entries)?;
     assert_eq!(rt; text.as_slice(), PRINTED);
     Ok(())
 }
+
+const REFUSALS: &[u8] = b"1 invalid SerialWrite
+2 invalid Level
+3 invalid UnknownTable
+4 invalid PartitionTooLarge
+5 invalid NotSupported
+";
 
 #[test]
 fn names_refusals(rt: HostRuntime) -> Result<(), Fail> {
@@ -195,14 +218,32 @@ fn names_refusals(rt: HostRuntime) -> Result<(), Fail> {
         Invalid::SerialWrite,
         Invalid::Level,
         Invalid::UnknownTable,
+        Invalid::PartitionTooLarge,
         Invalid::Statement(unsupported),
     ] {
         entries.push(Entry::Asked(None))?;
         entries.push(Entry::Turned(NodeId::FIRST, Refusal::Invalid(why)))?;
     }
-    let text = print_chronicle(alloc, &[], &entries)?;
-    let want =
-        b"1 invalid SerialWrite\n2 invalid Level\n3 invalid UnknownTable\n4 invalid NotSupported\n";
+    let text = printed(alloc, &[], entries)?;
+    assert_eq!(rt; text.as_slice(), REFUSALS);
+    Ok(())
+}
+
+/// A node that stops at a request, is turned to while it does not run, and has tables once it runs again.
+#[test]
+fn tells_of_nodes(rt: HostRuntime) -> Result<(), Fail> {
+    let alloc = rt.alloc();
+    let node = NodeId::new(6).ok_or("no such node")?;
+    let mut entries = Vec::new(alloc);
+    entries.push(Entry::Asked(Some(id(7))))?;
+    entries.push(submitted(alloc, id(7))?)?;
+    entries.push(Entry::Stopped(node))?;
+    entries.push(Entry::Asked(None))?;
+    entries.push(Entry::Turned(node, Refusal::Down))?;
+    entries.push(Entry::Marks(node, Items::new(alloc)))?;
+    entries.push(Entry::Tables(node, u32::MAX))?;
+    let text = printed(alloc, &[], entries)?;
+    let want = b"stopped 6\n2 down\ntables 6 4294967295\n";
     assert_eq!(rt; text.as_slice(), want.as_slice());
     Ok(())
 }

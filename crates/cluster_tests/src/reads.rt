@@ -43,6 +43,7 @@ fn three_of_four(alloc: Global) -> Result<Setting, Fail> {
     Ok(Setting {
         ring: Ring::new(&[-3, 0, 3, 6])?,
         tables,
+        expiry: Micros::new(10_800_000_000),
     })
 }
 
@@ -83,8 +84,8 @@ fn reply(
     Ok(open.on_reply(alloc, setting, request(), node(from)?, content)?)
 }
 
-/// Whether the entries are two rows of these names, by two replicas, and none further.
-fn shows(turn: &Move, first: &str, second: &str) -> bool {
+/// Whether the entries are two rows of these names, by so many replicas, and none further.
+fn shows(turn: &Move, first: &str, second: &str, replicas: usize) -> bool {
     let [Entry::Rows(_, rows, false, grounds)] = turn.entries.as_slice() else {
         return false;
     };
@@ -93,7 +94,7 @@ fn shows(turn: &Move, first: &str, second: &str) -> bool {
     };
     a.row.as_slice() == first.as_bytes()
         && b.row.as_slice() == second.as_bytes()
-        && grounds.heard.as_slice().len() == 2
+        && grounds.heard.as_slice().len() == replicas
 }
 
 /// Whether the client is told of this many replies where two are needed, and of data or none, and the read is done with.
@@ -126,7 +127,6 @@ fn is_quiet(turn: &Move) -> bool {
 fn asks_replicas_that_are_alive(rt: HostRuntime) -> Result<(), Fail> {
     let alloc = rt.alloc();
     let setting = three_of_four(alloc)?;
-    let query = whole(alloc)?;
     for (down, alive) in [
         (&[][..], &[1, 2, 3][..]),
         (&[node(0)?, node(2)?], &[1, 3]),
@@ -138,7 +138,7 @@ fn asks_replicas_that_are_alive(rt: HostRuntime) -> Result<(), Fail> {
             down,
             request(),
             Level::Two,
-            &query,
+            whole(alloc)?,
             Columns::Count,
         )?;
         assert!(rt; goes_to(&begun, alive));
@@ -163,7 +163,23 @@ fn merges_two_replies(rt: HostRuntime) -> Result<(), Fail> {
     assert!(rt; !reply(alloc, &mut open, &setting, 1, "c")?.ended);
     let turn = reply(alloc, &mut open, &setting, 3, "a")?;
     assert!(rt; turn.ended);
-    assert!(rt; shows(&turn, "a", "b"));
+    assert!(rt; shows(&turn, "a", "b", 2));
+    Ok(())
+}
+
+#[test]
+fn merges_replies_that_are_equal_and_that_are_not(rt: HostRuntime) -> Result<(), Fail> {
+    let alloc = rt.alloc();
+    let setting = three_of_four(alloc)?;
+    for rows in [["b", "b", "a"], ["a", "b", "b"], ["b", "a", "b"]] {
+        let [first, second, third] = rows;
+        let mut open = ReadCoord::start(alloc, Level::All, &whole(alloc)?)?;
+        assert!(rt; is_quiet(&reply(alloc, &mut open, &setting, 1, first)?));
+        assert!(rt; is_quiet(&reply(alloc, &mut open, &setting, 2, second)?));
+        let turn = reply(alloc, &mut open, &setting, 3, third)?;
+        assert!(rt; turn.ended);
+        assert!(rt; shows(&turn, "a", "b", 3));
+    }
     Ok(())
 }
 

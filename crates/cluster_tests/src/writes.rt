@@ -30,6 +30,7 @@ fn three_of_four(alloc: Global) -> Result<Setting, Fail> {
     Ok(Setting {
         ring: Ring::new(&[-3, 0, 3, 6])?,
         tables,
+        expiry: Micros::new(10_800_000_000),
     })
 }
 
@@ -60,6 +61,25 @@ fn is_timeout_at_one(turn: &Move) -> bool {
     *refusal == timeout && turn.sends.as_slice().is_empty() && turn.ended
 }
 
+/// Whether nothing is told, and the write is done with.
+fn is_over(turn: &Move) -> bool {
+    turn.entries.as_slice().is_empty() && turn.sends.as_slice().is_empty() && turn.ended
+}
+
+/// Whether the client is told of acknowledgements of these nodes, in this order, and the write waits on.
+fn is_answered_by(turn: &Move, nodes: &[u8]) -> bool {
+    let [Entry::Acked(_, Level::Quorum, heard)] = turn.entries.as_slice() else {
+        return false;
+    };
+    let heard = heard.as_slice();
+    !turn.ended
+        && heard.len() == nodes.len()
+        && heard
+            .iter()
+            .zip(nodes)
+            .all(|(node, number)| node.number() == *number)
+}
+
 /// Whether a write goes to just these nodes, in this order.
 fn goes_to(begun: &Move, nodes: &[u8]) -> bool {
     let sends = begun.sends.as_slice();
@@ -83,7 +103,8 @@ fn goes_to_replicas_that_are_alive(rt: HostRuntime) -> Result<(), Fail> {
         (&[node(0)?, node(2)?], &[1, 3]),
         (&[node(3)?, node(1)?, node(2)?], &[]),
     ] {
-        let begun = opening(alloc, &setting, down, request(7), &draft)?;
+        let mutation = draft.mutation(alloc, request(7))?;
+        let begun = opening(alloc, &setting, down, request(7), mutation)?;
         assert!(rt; goes_to(&begun, alive));
         assert!(rt; matches!(begun.entries.as_slice(), [Entry::Submitted(_, _)]));
     }
@@ -91,15 +112,33 @@ fn goes_to_replicas_that_are_alive(rt: HostRuntime) -> Result<(), Fail> {
 }
 
 #[test]
-fn waits_for_a_quorum(rt: HostRuntime) -> Result<(), Fail> {
+fn is_answered_at_a_quorum_and_waits_on(rt: HostRuntime) -> Result<(), Fail> {
     let alloc = rt.alloc();
     let setting = three_of_four(alloc)?;
     let mut open = WriteCoord::start(alloc, Level::Quorum, &draft(alloc)?)?;
-    for (from, ended) in [(0, false), (2, false), (2, false), (3, true)] {
-        let turn = open.on_ack(alloc, &setting, request(7), node(from)?)?;
-        assert_eq!(rt; turn.ended, ended);
-        assert_eq!(rt; turn.entries.as_slice().len(), usize::from(ended));
+    for from in [0, 2, 2] {
+        assert!(rt; is_quiet(&open.on_ack(alloc, &setting, request(7), node(from)?)?));
     }
+    let turn = open.on_ack(alloc, &setting, request(7), node(3)?)?;
+    assert!(rt; is_answered_by(&turn, &[2, 3]));
+    // It is answered once, and done with at the last replica's acknowledgement.
+    assert!(rt; is_quiet(&open.on_ack(alloc, &setting, request(7), node(3)?)?));
+    assert!(rt; is_over(&open.on_ack(alloc, &setting, request(7), node(1)?)?));
+    Ok(())
+}
+
+#[test]
+fn is_told_nothing_more_at_its_deadline(rt: HostRuntime) -> Result<(), Fail> {
+    let alloc = rt.alloc();
+    let setting = three_of_four(alloc)?;
+    let mut open = WriteCoord::start(alloc, Level::Quorum, &draft(alloc)?)?;
+    for from in [2, 3] {
+        assert!(rt; !open.on_ack(alloc, &setting, request(7), node(from)?)?.ended);
+    }
+    let before = open.at_time(alloc, &setting, request(7), Micros::new(5_000_006))?;
+    assert!(rt; is_quiet(&before));
+    let turn = open.at_time(alloc, &setting, request(7), Micros::new(5_000_007))?;
+    assert!(rt; is_over(&turn));
     Ok(())
 }
 

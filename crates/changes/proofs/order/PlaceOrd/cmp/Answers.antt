@@ -1,8 +1,26 @@
-use Rattle.std.proofs.Common.{sym}
+use Rattle.std.proofs.Common.{Less, Equal, Greater, refl, sym}
+use Rattle.changes.specs.Order.{sign_cmp}
+use Rattle.changes.specs.Tests.{step_of}
 use Rattle.changes.proofs.Places.{rows_by_steps}
 use Rattle.changes.proofs.order.PlaceOrd.cmp.Goals as goal
 
-pub returns-in-Some-Some : goal.returns-in-Some-Some
-returns-in-Some-Some c =
-    rows_by_steps c.args.self.now c.args.other.now c.in-Some-Some.row.now c.in-Some-Some.beside.now c.step.result c.step-in-Some-Some.result c.cmp.result c.cmp-in-Some-Some.result c.then.result (sym c.in-Some-Some.ensures) (sym c.in-Some-Some.ensures') c.step.ensures
-    c.step-in-Some-Some.ensures c.cmp.ensures c.cmp-in-Some-Some.ensures c.then.ensures
+pub returns-in-Equal : goal.returns-in-Equal
+returns-in-Equal c =
+    let arm = c.in-Some-Some in
+    rows_by_steps c.args.self.now c.args.other.now arm.row.now arm.beside.now c.step.result c.step-in-Equal.result Equal c.cmp-in-Equal.result c.cmp-in-Equal.result (sym arm.ensures) (sym arm.ensures') c.step.ensures
+    c.step-in-Equal.ensures c.in-Equal.ensures c.cmp-in-Equal.ensures refl
+
+-- where the rows are apart they decide
+pub returns-in-Less : goal.returns-in-Less
+returns-in-Less c =
+    let p = c.args.self.now in
+    let q = c.args.other.now in
+    let arm = c.in-Some-Some in
+    rows_by_steps p q arm.row.now arm.beside.now (step_of p) (step_of q) Less (sign_cmp (step_of p) (step_of q)) Less (sym arm.ensures) (sym arm.ensures') refl refl c.in-Less.ensures refl refl
+
+pub returns-in-Greater : goal.returns-in-Greater
+returns-in-Greater c =
+    let p = c.args.self.now in
+    let q = c.args.other.now in
+    let arm = c.in-Some-Some in
+    rows_by_steps p q arm.row.now arm.beside.now (step_of p) (step_of q) Greater (sign_cmp (step_of p) (step_of q)) Greater (sym arm.ensures) (sym arm.ensures') refl refl c.in-Greater.ensures refl refl
