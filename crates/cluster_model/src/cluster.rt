@@ -14,7 +14,6 @@ use crate::copies::copy_setting;
 use crate::error::ClusterError;
 use crate::event::ClusterEvent;
 use crate::mail::Mail;
-use crate::mem_replica::MemReplica;
 use crate::parts::Parts;
 use crate::seat::{Part, Seat};
 use cs_base::{Micros, NodeId};
@@ -22,7 +21,7 @@ use cs_store::{MemStore, Outcome};
 use http_server::Log;
 use node_core::Node;
 use peer_messages::{Entries, Setting};
-use replica::LoadError;
+use replica::{LoadError, MemReplica};
 use std::alloc::{AllocError, Global};
 use std::marker::Model;
 

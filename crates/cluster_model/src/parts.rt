@@ -14,7 +14,6 @@ ghost use Rattle.cluster_model.specs.Holding.{Holds, state_of};
 use crate::annals::Annals;
 use crate::copies::copy_setting;
 use crate::event::ClusterEvent;
-use crate::mem_replica::MemReplica;
 use crate::seat::Seat;
 use crate::told::Told;
 use crate::turn::Turn;
@@ -22,6 +21,7 @@ use cs_base::{Micros, NodeId};
 use cs_store::Outcome;
 use http_server::Log;
 use peer_messages::{Setting, What};
+use replica::MemReplica;
 use std::alloc::{AllocError, Global};
 use std::mem;
 

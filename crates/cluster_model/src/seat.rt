@@ -9,14 +9,13 @@ ghost use Rattle.cs_store.specs.Disk.{Passes, Stays};
 ghost use Rattle.cs_store.specs.Mem.{disk_of, plan_of};
 ghost use Rattle.cluster_model.specs.Sites.{keeper, Crashed, HasLeft, MayTake, MayWake, StopsBy, StaysAt, TellsBy, Turns, Loads, Puts, WakesBy, SleepsBy};
 
-use crate::mem_replica::MemReplica;
 use crate::told::{Told, has_failure, has_halt, tell_all};
 use crate::turn::Turn;
 use cs_base::{Items, Micros, NodeId};
 use cs_store::{FileNo, MemStore, Outcome, Store};
 use node_core::{Node, StepError};
 use peer_messages::{Event, Invalid, NodeIds, Refusal, Setting, What, is_in};
-use replica::LoadError;
+use replica::{LoadError, MemReplica};
 use std::alloc::{AllocError, Global};
 use std::mem;
 

@@ -8,11 +8,12 @@ ghost use Rattle.cluster_program.specs.Runs.{newest as newest_of, keyspace_after
 
 use crate::requests::{event_of, setting_of};
 use chronicle_print::print_chronicle;
-use cluster_model::{Cluster, ClusterError, MemReplica};
+use cluster_model::{Cluster, ClusterError};
 use cs_base::Text;
 use cs_store::MemStore;
 use fault_script::{Script, ScriptEvent};
 use peer_messages::{Entries, Entry, Setting};
+use replica::MemReplica;
 use schema_book::Schema;
 use std::alloc::{AllocError, Global};
 

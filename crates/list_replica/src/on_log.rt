@@ -12,10 +12,10 @@ use cell_merge::Content;
 use changes::{Bound, Partition};
 use commit_log::{CommitLog, LogEntries, LogError, ReserveError};
 use cs_base::{Failed, Micros, Range};
-use cs_store::{FileNo, Store};
+use cs_store::{FileNo, MemStore, Outcome, Store};
 use replica::{
-    CallError, FinishError, Graces, Kept, LoadError, MergeDone, MergeJob, Partitions, Purges,
-    Replica, RoomError,
+    CallError, FinishError, Graces, Kept, LoadError, MemReplica, MergeDone, MergeJob, Partitions,
+    Purges, Replica, RoomError,
 };
 use row_change::{LogEntry, LogItem};
 use std::alloc::Global;
@@ -219,5 +219,15 @@ impl<S: Store + Drop> Replica for ListReplica<S> {
 
     fn release(self) -> S {
         self.store
+    }
+}
+
+impl MemReplica for ListReplica<MemStore> {
+    fn fail_at(&mut self, j: u32) {
+        self.store.fail_at(j);
+    }
+
+    fn stop_at(&mut self, j: u32, outcome: Outcome) {
+        self.store.stop_at(j, outcome);
     }
 }

@@ -5,8 +5,8 @@ ghost use Rattle.cs_store.specs.Mem.{IsSameDisk, faults_of, plan_of};
 ghost use Rattle.cs_store.specs.Plan.{sooner};
 ghost use Rattle.cs_store.specs.declared.plan.Fault.TheVariants as fault;
 
+use crate::Replica;
 use cs_store::{MemStore, Outcome};
-use replica::Replica;
 
 /// A replica on a store in memory, whose calls fail as they are told to.
 pub trait MemReplica: Replica<Disk = MemStore> {
