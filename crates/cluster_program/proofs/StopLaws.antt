@@ -20,7 +20,8 @@ use Rattle.cluster_model.specs.declared.event.ClusterEvent.TheVariants as event
 use Rattle.fault_script.specs.declared.script.ScriptEvent.{ScriptEvent}
 use Rattle.fault_script.specs.declared.script.ScriptEvent.TheVariants as line
 use Rattle.cluster_program.specs.Requests.{IsEventOf}
-use Rattle.cluster_program.specs.Runs.{keyspace_after, Plays, fresh_site}
+use Rattle.cluster_model.specs.Beginning.{begun_site}
+use Rattle.cluster_program.specs.Runs.{keyspace_after, Plays}
 use Rattle.cluster_program.specs.Stops.{names_stop, IsWell, IsWellAt, StopsAreNamed}
 
 -- ---- a site that is put at node j
@@ -155,7 +156,7 @@ spares_by k e e' is h = subst (Spares k) (sym is) h
 line_spares : (book : Book) (keyspace : Option (List ℕ)) (k : ℕ) (l : ScriptEvent) (e : ClusterEvent) → names_stop k l ≡ false → IsEventOf book keyspace l e → Spares k e
 line_spares book keyspace k (line.Put put) e other (p, asks, is) = spares_by k e _ is tt
 line_spares book keyspace k (line.Get get) e other (p, asks, is) = spares_by k e _ is tt
-line_spares book keyspace k (line.Cql request) e other (s, said, p, asks, is) = spares_by k e _ is tt
+line_spares book keyspace k (line.Cql request) e other (s, said, (p, asks, is)) = spares_by k e _ is tt
 line_spares book keyspace k (line.Deliver place) e other is = spares_by k e _ is tt
 line_spares book keyspace k (line.Drop place) e other is = spares_by k e _ is tt
 line_spares book keyspace k (line.Settle count) e other is = spares_by k e _ is tt
@@ -180,12 +181,12 @@ abbrev well_if_any : Option Site → Type 0
 well_if_any None = Unit {0}
 well_if_any (Some site) = IsWell site
 
-fresh_well : (first : List NodeState) (k : ℕ) → IsWellAt (map fresh_site first) k
+fresh_well : (first : List NodeState) (k : ℕ) → IsWellAt (map begun_site first) k
 fresh_well [] k site there = cc
 fresh_well (s ∷ first) zero site there = subst well_if_any there (record { untold = refl; up = tt })
 fresh_well (s ∷ first) (suc k) site there = fresh_well first k site there
 
-pub stops_are_named : (book : Book) (lines : List ScriptEvent) (before after : ClusterState) (first : List NodeState) → before.sites ≡ map fresh_site first → Plays book None before lines after
+pub stops_are_named : (book : Book) (lines : List ScriptEvent) (before after : ClusterState) (first : List NodeState) → before.sites ≡ map begun_site first → Plays book None before lines after
     → StopsAreNamed lines after.sites
 stops_are_named book lines before after first fresh h k none =
     plays book lines None before after k none (subst (λ (sites : List Site). IsWellAt sites k) (sym fresh) (fresh_well first k)) h

@@ -5,11 +5,8 @@ use Rattle.schema_book.specs.Books.{Book}
 use Rattle.peer_messages.specs.declared.chronicle.Entry.{Entry}
 use Rattle.peer_messages.specs.declared.chronicle.Entry.TheVariants.{Used}
 use Rattle.peer_messages.specs.declared.setting.Setting.{Setting}
-use Rattle.cs_store.specs.declared.mem.MemStore.{MemStore}
-use Rattle.cs_store.specs.Images.{quiet, formatted_bytes}
-use Rattle.cs_store.specs.Mem.{IsAllSettled, IsSure, images_of}
-use Rattle.node_steps.specs.State.{NodeState}
-use Rattle.cluster_model.specs.State.{ClusterState, Site, Up, IsReached, AreFresh, no_post}
+use Rattle.cluster_model.specs.Beginning.{begun_site}
+use Rattle.cluster_model.specs.State.{ClusterState, IsReached, AreFresh, no_post}
 use Rattle.cluster_model.specs.Takes.{Takes}
 use Rattle.cluster_model.specs.declared.event.ClusterEvent.{ClusterEvent}
 use Rattle.chronicle_print.specs.Printed.{IsInPrint}
@@ -41,21 +38,11 @@ Plays book keyspace v (e ∷ rest) v' =
     (event : ClusterEvent) × (mid : ClusterState) × IsEventOf book keyspace e event × Takes v event mid
     × Plays book (keyspace_after keyspace mid.chronicle) mid rest v'
 
--- its files are as they are made, and no call of it fails
-pub record IsFormatted (s : MemStore) : Type 0 where
-  pub files : (k : ℕ) → images_of s k ≡ quiet (formatted_bytes k)
-  pub settled : IsAllSettled s
-  pub sure : IsSure s
-
--- a node that was just loaded, whose clock reads 0, and whose store was told no fault
-abbrev pub fresh_site : NodeState → Site
-fresh_site s = record { node = Up s; clock = 0; told = [] }
-
 -- nodes that were just loaded from formatted stores, and nothing has happened
 pub record IsFresh (c : Setting) (v : ClusterState) : Type 0 where
   pub setting : v.setting ≡ c
   pub first : AreFresh c v.first
-  pub sites : v.sites ≡ map fresh_site v.first
+  pub sites : v.sites ≡ map begun_site v.first
   pub post : v.post ≡ no_post
   pub chronicle : v.chronicle ≡ []
 

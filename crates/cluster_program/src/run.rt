@@ -4,7 +4,9 @@ ghost use Rattle.std.specs.Prelude.{◌≡◌, ◌≤◌, None, All, length, IfO
 ghost use Rattle.fault_script.specs.Script.{IsSaid};
 ghost use Rattle.chronicle_print.specs.Printed.{joined};
 ghost use Rattle.peer_messages.specs.declared.setting.Setting.{Setting as setting_value};
-ghost use Rattle.cluster_program.specs.Runs.{newest as newest_of, keyspace_after as keyspace_after_entries, IsFormatted, IsFresh, IsRunInPrint, Plays};
+ghost use Rattle.cluster_model.specs.Beginning.{AreFormatted};
+ghost use Rattle.cluster_model.specs.State.{KeepsOn};
+ghost use Rattle.cluster_program.specs.Runs.{newest as newest_of, keyspace_after as keyspace_after_entries, IsFresh, IsRunInPrint, Plays};
 
 use crate::requests::{event_of, setting_of};
 use chronicle_print::print_chronicle;
@@ -30,12 +32,12 @@ fn name_of(keyspace: &Option<Text>) -> Option<&str>
 fn newest(pieces: &[Entries]) -> Option<&Entry>
     ensures { option_copied result ≡ newest_of (reverse (joined pieces.now)) }
 {
-    let mut rest = pieces;
-    while let [front @ .., piece] = rest {
-        if let Some(entry) = piece.as_slice().last() {
+    let mut left = pieces.len();
+    while left > 0 {
+        left -= 1;
+        if let Some(entry) = pieces[left].as_slice().last() {
             return Some(entry);
         }
-        rest = front;
     }
     None
 }
@@ -57,7 +59,7 @@ fn keyspace_after(
 /// A formatted store for each of so many nodes.
 fn formatted_stores(alloc: Global, nodes: u8) -> Result<Vec<MemStore>, AllocError>
     ensures count { IfOk result (λ stores. length stores.items ≡ nodes) }
-    ensures formatted { IfOk result (λ stores. All IsFormatted stores.items) }
+    ensures formatted { IfOk result (λ stores. AreFormatted stores.items) }
 {
     let mut stores = Vec::new(alloc);
     for _ in 0..nodes {
@@ -87,7 +89,8 @@ fn play<R: MemReplica>(
     events: &[ScriptEvent],
 ) -> Result<(), AllocError>
     requires { All IsSaid events.now }
-    ensures { OnOk result (Plays schema.now None cluster.old events.now cluster.new) }
+    ensures plays { OnOk result (Plays schema.now None cluster.old events.now cluster.new) }
+    ensures keeps { OnOk result (KeepsOn cluster.old cluster.new) }
 {
     let mut keyspace = None;
     for event in events {

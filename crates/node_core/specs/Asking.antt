@@ -1,12 +1,11 @@
 -- A client's request, as its step takes it.
-use Rattle.std.specs.Prelude.{◌≡◌, ◌≤◌, ◌⊎◌, Option, Some, None, List, [], ◌∷◌}
+use Rattle.std.specs.Prelude.{◌≡◌, ◌≤◌, ◌⊎◌, None, [], ◌∷◌}
 use Rattle.cs_base.specs.declared.level.Level.{Level}
 use Rattle.changes.specs.declared.DraftMutation.{DraftMutation}
 use Rattle.changes.specs.declared.Query.{Query}
 use Rattle.statement_plan.specs.declared.plan.Columns.{Columns}
 use Rattle.peer_messages.specs.declared.chronicle.Entry.{Entry}
 use Rattle.peer_messages.specs.declared.event.Plan.{Plan}
-use Rattle.node_steps.specs.State.{NodeState}
 use Rattle.node_steps.specs.Effects.{effects_of}
 use Rattle.node_steps.specs.Requests.{refusal_of, BeginsOrRefuses}
 use Rattle.node_steps.specs.Writes.{start_write, started_write}

@@ -7,7 +7,6 @@ use Rattle.peer_messages.specs.declared.event.Event.{Event}
 use Rattle.peer_messages.specs.declared.event.What.{What}
 use Rattle.peer_messages.specs.declared.event.What.TheVariants.{Client, Deliver, Alive, Flush, Tick}
 use Rattle.peer_messages.specs.declared.outcome.Outputs.{Outputs}
-use Rattle.durable_state.specs.State.{Durable}
 use Rattle.node_steps.specs.Acts.{ceiling_after}
 use Rattle.node_steps.specs.Steps.{looked_at, started_by, is_refused}
 use Rattle.node_steps.specs.Keeping.{ceiling_in}

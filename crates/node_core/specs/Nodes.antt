@@ -1,5 +1,5 @@
 -- A node as its contracts see it: what it has in memory, and what its replica keeps.
-use Rattle.std.specs.Prelude.{◌≡◌, ◌⊎◌, ◌<◌, ℕ, Bool, Option, List, []}
+use Rattle.std.specs.Prelude.{◌≡◌, ◌⊎◌, ◌<◌, ℕ, Bool, List}
 use Rattle.cs_base.specs.declared.ids.ReqId.{ReqId}
 use Rattle.changes.specs.declared.Partition.{Partition}
 use Rattle.cs_store.specs.Disk.{Disk, IsImage}

@@ -1,5 +1,4 @@
 use Rattle.std.proofs.Common.{List, Contains, subst, sym, ◌∙◌}
-use Rattle.std.specs.Prelude.{IfOk}
 use Rattle.std.proofs.lemmas.Result.{IfOk-weaker}
 use Rattle.changes.specs.declared.Held.{Held}
 use Rattle.changes.specs.Contents.{IsContent}

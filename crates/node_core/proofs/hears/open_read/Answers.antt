@@ -1,4 +1,4 @@
-use Rattle.std.proofs.Common.{Option, Some, subst}
+use Rattle.std.proofs.Common.{Option, subst}
 use Rattle.node_core.specs.declared.slot.Found.{Found}
 use Rattle.node_steps.specs.State.{OpenRead}
 use Rattle.node_core.specs.Slots.{IsFound}

@@ -1,4 +1,4 @@
-use Rattle.std.proofs.Common.{ℕ, Option, Result, Ok, Err, IsErrOf, refl, sym, ap, subst, ◌∙◌}
+use Rattle.std.proofs.Common.{ℕ, Option, Result, Err, IsErrOf, refl, sym, ap, subst, ◌∙◌}
 use Rattle.replica.specs.declared.error.RoomError.{RoomError}
 use Rattle.replica.specs.declared.error.RoomError.TheVariants as room_error
 use Rattle.node_core.proofs.Answered.{err_here, ok_here}

@@ -1,4 +1,4 @@
-use Rattle.std.proofs.Common.{rules, ℕ, Ok, Err, IsErrOf, refl, sym, subst, arith}
+use Rattle.std.proofs.Common.{rules, ℕ, IsErrOf, refl, sym, subst, arith}
 use Rattle.durable_state.specs.State.{Durable}
 use Rattle.durable_state.specs.Keeping.{IsWithOrWithout}
 use Rattle.replica.specs.Finding.{AlwaysLeaves}

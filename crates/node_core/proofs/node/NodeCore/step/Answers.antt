@@ -1,4 +1,4 @@
-use Rattle.std.proofs.Common.{false, refl}
+use Rattle.std.proofs.Common.{refl}
 use Rattle.node_core.proofs.Running.{failed_told, on_told, others_told, running, same_told, steps_told}
 use Rattle.node_core.proofs.node.NodeCore.step.Goals as goal
 
