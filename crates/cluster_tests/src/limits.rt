@@ -3,15 +3,15 @@
 ghost use Rattle.std.specs.Prelude.{◌≤◌};
 ghost use Rattle.cs_store.specs.Mem.{IsAllSettled};
 
-use crate::plans::{read, write, write_bytes};
+use crate::plans::{partition, read, write, write_bytes};
 use crate::site::{Site, id, setting, store_of, store_with};
 use crate::told::{Told, told_by};
 use cs_base::{Level, Micros, NodeId, ReqId};
 use cs_store::{MemStore, Outcome};
 use list_replica::ListReplica;
 use node_core::{Lost, StepError};
-use peer_messages::{Ask, Entry, Message, Plan, What};
-use std::alloc::Global;
+use peer_messages::{Ask, Entry, Message, Outputs, Plan, What};
+use std::alloc::{AllocError, Global};
 use std::test::Fail;
 
 /// A node as these tests step it.
@@ -31,38 +31,27 @@ fn asked(alloc: Global, node: &mut Tested, plan: Plan) -> Told {
     told_by(&node.step(alloc, 0, What::Client(Ask { plan, level })))
 }
 
-/// What is told where a value of so many bytes is written to the row, with a timestamp that wins, and whether time has passed
-/// then. The node keeps a value of `kept` bytes in row a.
-fn told_beside(
-    alloc: Global,
-    kept: usize,
-    row: &[u8],
-    length: usize,
-) -> Result<(Told, bool), Fail> {
-    let mut node = node_on(alloc, 0, store_with(alloc, kept)?)?;
-    let value = vec![in alloc; b'x'; length]?;
-    let told = asked(alloc, &mut node, write_bytes(alloc, row, value, 5)?);
-    Ok((told, node.time_at(alloc, 0)? > 1))
+/// Whether the partition is told of which too much would be held.
+fn is_too_large(alloc: Global, step: Result<Outputs, StepError>) -> Result<bool, AllocError> {
+    match step {
+        Err(StepError::TooLarge(large)) => Ok(large == partition(alloc)?),
+        _ => Ok(false),
+    }
 }
 
-// What is held of a partition is 4 bytes longer than its cells, and such a cell 37 bytes longer than its value; the log's file is
-// 75 bytes longer than the value. The entry of a write of one byte adds 84 bytes to it, with the first ceiling.
+// A cell is stored 37 bytes longer than its value, and a content 4 bytes longer than its cells.
 #[test]
-fn contents_and_logs_are_bounded(rt: HostRuntime) -> Result<(), Fail> {
-    const CONTENT: usize = 1 << 24;
-    const LOG: usize = 1 << 26;
-    for (kept, row, length, want) in [
-        (CONTENT - 78, b"b", 0, Told::Acked(1)),
-        (CONTENT - 77, b"b", 0, Told::TooLarge),
-        (CONTENT - 41, b"a", 1, Told::Acked(1)),
-        (LOG - 159, b"a", 1, Told::Acked(1)),
-        (LOG - 158, b"a", 1, Told::NoRoom),
-        (LOG - 158, b"b", 1, Told::TooLarge),
-    ] {
-        let (told, passed) = told_beside(rt.alloc(), kept, row, length)?;
-        assert_eq!(rt; told, want, "{kept} {length}");
-        assert_eq!(rt; passed, want == Told::Acked(1), "{kept} {length}");
-    }
+fn contents_are_bounded(rt: HostRuntime) -> Result<(), Fail> {
+    let alloc = rt.alloc();
+    let mut node = node_on(alloc, 0, store_with(alloc, (1 << 24) - 78)?)?;
+    let plan = write_bytes(alloc, b"b", vec![in alloc; b'x'; 1]?, 5)?;
+    let level = Level::One;
+    let step = node.step(alloc, 0, What::Client(Ask { plan, level }));
+    assert!(rt; is_too_large(alloc, step)?);
+    // Nothing has happened: no time has passed, and there is room for one byte less.
+    assert_eq!(rt; node.time_at(alloc, 0)?, 1);
+    let plan = write_bytes(alloc, b"b", Vec::new(alloc), 5)?;
+    assert_eq!(rt; asked(alloc, &mut node, plan), Told::Acked(1));
     Ok(())
 }
 

@@ -11,6 +11,7 @@ use peer_messages::{Event, Outputs, Setting, TableSetting, What};
 use replica::{LoadError, MemReplica};
 use std::alloc::Global;
 use std::marker::Model;
+use std::mem;
 use std::test::Fail;
 use token_ring::Ring;
 
@@ -125,19 +126,20 @@ pub(crate) fn store_of(alloc: Global, log: &[u8]) -> Result<MemStore, Fail>
     Ok(store)
 }
 
-/// A store that keeps a value of so many bytes in row a of the partition, with a low timestamp.
-pub(crate) fn store_with(alloc: Global, length: usize) -> Result<MemStore, Fail>
+/// A store that keeps a value of so many zeros in row a of the partition, with the timestamp 0. Its log's file is 75 bytes longer.
+pub(crate) fn store_with(alloc: Global, length: u32) -> Result<MemStore, Fail>
     requires { length < 2 ^ 27 }
     ensures { IfOk result IsAllSettled }
 {
-    let mut log = Vec::from_slice(alloc, b"\xc5")?;
-    log.extend_from_slice(&(length as u32 + 69).to_be_bytes())?;
-    log.extend_from_slice(
-        b"\0\0\0\x01\x01\0\0\0\0\0\0\0\x01\0\0\0\0\0\0\0\0\0\x01\0\0\0\x01k\0\0\0\x01\x01\0\0\0\x01a\x02\x01",
-    )?;
-    log.extend_from_slice(&(length as u32).to_be_bytes())?;
-    let value = vec![in alloc; b'v'; length]?;
-    log.extend_from_slice(&value)?;
-    log.extend_from_slice(b"\0\0\0\0\0\0\0\x01\0\0\0\0\0\0\0\x01\0\0\0\0\0\0\0\0\x01\0")?;
-    store_of(alloc, &log)
+    let mut head = Vec::from_slice(alloc, b"\xc5")?;
+    head.extend_from_slice(&(length + 69).to_be_bytes())?;
+    head.extend_from_slice(b"\0\0\0\x01\x01\0\0\0\0\0\0\0\x01\0\0\0\0\0\0\0\0\0\x01")?;
+    head.extend_from_slice(b"\0\0\0\x01k\0\0\0\x01\x01\0\0\0\x01a\x02\x01")?;
+    head.extend_from_slice(&length.to_be_bytes())?;
+    let mut log = vec![in alloc; 0; length as usize + 75]?;
+    log[..49].copy_from_slice(&head[..49]);
+    let store = store_of(alloc, &log);
+    // A long list is let go of item by item, which takes as long as the rest.
+    mem::forget(log);
+    store
 }
