@@ -7,14 +7,14 @@ use crate::site::{id, setting, store_of, store_with};
 use cluster_model::{Cluster, ClusterError, ClusterEvent};
 use cs_base::Level;
 use cs_store::MemStore;
-use list_replica::ListReplica;
+use list_replica::MemListReplica;
 use peer_messages::{Ask, Entry, Invalid, Plan, Refusal, Setting};
 use std::alloc::{AllocError, Global};
 use std::mem;
 use std::test::Fail;
 
 /// A cluster as these tests step it.
-type Tested = Cluster<ListReplica<MemStore>>;
+type Tested = Cluster<MemListReplica>;
 
 /// So many formatted stores.
 fn stores(alloc: Global, nodes: u8) -> Result<Vec<MemStore>, AllocError>

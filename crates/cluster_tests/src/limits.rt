@@ -8,14 +8,14 @@ use crate::site::{Site, id, setting, store_of, store_with};
 use crate::told::{Told, told_by};
 use cs_base::{Level, Micros, NodeId, ReqId};
 use cs_store::{MemStore, Outcome};
-use list_replica::ListReplica;
+use list_replica::MemListReplica;
 use node_core::{Lost, StepError};
 use peer_messages::{Ask, Entry, Message, Outputs, Plan, What};
 use std::alloc::{AllocError, Global};
 use std::test::Fail;
 
 /// A node as these tests step it.
-type Tested = Site<ListReplica<MemStore>>;
+type Tested = Site<MemListReplica>;
 
 /// One of three nodes, on this store.
 fn node_on(alloc: Global, number: u8, store: MemStore) -> Result<Tested, Fail>

@@ -5,14 +5,14 @@ use crate::site::{Site, id, setting};
 use crate::told::{Told, last_told};
 use cs_base::{Level, Micros, NodeId, ReqId, Text};
 use cs_store::{MemStore, Outcome};
-use list_replica::ListReplica;
+use list_replica::MemListReplica;
 use peer_messages::{Ask, Body, Invalid, Message, Messages, Outputs, Plan, Refusal, What};
 use statement_plan::Fault;
 use std::alloc::Global;
 use std::test::Fail;
 
 /// A node as these tests step it.
-type Tested = Site<ListReplica<MemStore>>;
+type Tested = Site<MemListReplica>;
 
 /// One of three nodes.
 fn node(alloc: Global, number: u8) -> Result<Tested, Fail> {

@@ -29,7 +29,7 @@ impl<R: MemReplica> Model for Site<R> {
 
     ghost view = { λ _. tt };
 
-    ghost invariant = { λ a. a.node.core.runs ≡ true → R.is_whole a.node.replica × (R.Disk.is_honest → IsKeptOf (R.durable a.node.replica) a.node.core.kept) };
+    ghost invariant = { λ a. a.node.core.runs ≡ true → R.is_whole a.node.replica × IsKeptOf (R.durable a.node.replica) a.node.core.kept };
 }
 
 pub(crate) fn setting(alloc: Global, tokens: &[i64], factor: u8) -> Result<Setting, Fail> {
@@ -137,7 +137,9 @@ pub(crate) fn store_with(alloc: Global, length: u32) -> Result<MemStore, Fail>
     head.extend_from_slice(b"\0\0\0\x01k\0\0\0\x01\x01\0\0\0\x01a\x02\x01")?;
     head.extend_from_slice(&length.to_be_bytes())?;
     let mut log = vec![in alloc; 0; length as usize + 75]?;
-    log[..49].copy_from_slice(&head[..49]);
+    for (place, byte) in log.iter_mut().zip(&head) {
+        *place = *byte;
+    }
     let store = store_of(alloc, &log);
     // A long list is let go of item by item, which takes as long as the rest.
     mem::forget(log);
