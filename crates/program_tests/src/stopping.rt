@@ -264,13 +264,13 @@ impl Answers {
         self.read.iter().any(|other| *other == request)
     }
 
-    /// The greatest value of the row that a read with so many replicas has to meet, of what these steps wrote.
-    fn met(&self, before: &[Step], needed: usize, row: u8) -> u8 {
+    /// The greatest value of the row that a read with so many replicas has to meet, of what the steps before this place wrote.
+    fn met(&self, place: usize, needed: usize, row: u8) -> u8 {
         let mut value = NOTHING;
-        for (place, step) in before.iter().enumerate() {
+        for (before, step) in STEPS.iter().take(place).enumerate() {
             if let Some(cell) = step.writes {
                 let meets = step.needed.saturating_add(needed) > REPLICAS;
-                if cell.row == row && meets && self.is_acknowledged(number_of(place)) {
+                if cell.row == row && meets && self.is_acknowledged(number_of(before)) {
                     value = value.max(cell.value);
                 }
             }
@@ -279,10 +279,10 @@ impl Answers {
     }
 
     /// Whether an answered read shows in a row what it has to, once, and nothing that was not asked for.
-    fn row_is_right(&self, before: &[Step], request: usize, needed: usize, row: u8) -> bool {
-        let (value, count) = self.value(request, row);
-        let is_known = value == NOTHING || was_asked(before, Cell { row, value });
-        is_known && count <= 1 && value >= self.met(before, needed, row)
+    fn row_is_right(&self, place: usize, needed: usize, row: u8) -> bool {
+        let (value, count) = self.value(number_of(place), row);
+        let is_known = value == NOTHING || was_asked(place, Cell { row, value });
+        is_known && count <= 1 && value >= self.met(place, needed, row)
     }
 
     /// Whether an answered read shows no other row than these.
@@ -291,19 +291,26 @@ impl Answers {
             || matches!(shown.cell.row, b'a'..=b'c'))
     }
 
-    /// Whether the answer of a step is right, if it has one.
-    fn is_right(&self, before: &[Step], step: &Step) -> bool {
-        let request = number_of(before.len());
+    /// Whether the answer of the step at this place is right, if it has one.
+    fn is_right(&self, place: usize, step: &Step) -> bool {
+        let request = number_of(place);
         if step.writes.is_some() || !self.is_read(request) {
             return true;
         }
         self.rows_are_known(request)
-            && [b'a', b'b', b'c'].iter().all(|row| self.row_is_right(
-                before,
-                request,
-                step.needed,
-                *row,
-            ))
+            && self.row_is_right(place, step.needed, b'a')
+            && self.row_is_right(place, step.needed, b'b')
+            && self.row_is_right(place, step.needed, b'c')
+    }
+
+    /// The place of the first step whose answer is wrong.
+    fn first_wrong(&self) -> Option<usize> {
+        for (place, step) in STEPS.iter().enumerate() {
+            if !self.is_right(place, step) {
+                return Some(place);
+            }
+        }
+        None
     }
 }
 
@@ -312,20 +319,9 @@ fn number_of(place: usize) -> usize {
     place.saturating_mul(2).saturating_add(1)
 }
 
-fn was_asked(steps: &[Step], cell: Cell) -> bool {
-    steps.iter().any(|step| step.writes == Some(cell))
-}
-
-/// The first step whose answer is wrong.
-fn first_wrong(answers: &Answers) -> Option<usize> {
-    let mut before: usize = 0;
-    for step in STEPS {
-        if !answers.is_right(&STEPS[..before], &step) {
-            return Some(before);
-        }
-        before = before.saturating_add(1);
-    }
-    None
+/// Whether one of the steps before this place wrote the cell.
+fn was_asked(place: usize, cell: Cell) -> bool {
+    STEPS.iter().take(place).any(|step| step.writes == Some(cell))
 }
 
 /// At how many calls node 1 stops, with this outcome, until there is none left.
@@ -333,15 +329,15 @@ fn stops(alloc: Global, outcome: &str) -> Result<u32, Fail> {
     for call in 1..100 {
         let text = printed(alloc, script(alloc, call, outcome)?.as_str())?;
         let answers = Answers::of(alloc, text.as_str())?;
-        if let Some(place) = first_wrong(&answers) {
+        if let Some(place) = answers.first_wrong() {
             let why = format!(in alloc; "{outcome} {call}: step {place} is wrong in {text}")?;
             return Err(why.as_str().into());
         }
         if !answers.has_stopped {
-            return match text.as_str() == UNSTOPPED {
-                true => Ok(call - 1),
-                false => Err("without a stop something else is answered".into()),
-            };
+            if text.as_str() != UNSTOPPED {
+                return Err("without a stop something else is answered".into());
+            }
+            return Ok(call.saturating_sub(1));
         }
     }
     Err("it stops again and again".into())
