@@ -2,8 +2,6 @@
 #![tactic(auto)]
 
 #[cfg(test)]
-mod large;
-#[cfg(test)]
 mod printed_scripts;
 #[cfg(test)]
 mod running;

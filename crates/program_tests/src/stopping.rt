@@ -321,7 +321,10 @@ fn number_of(place: usize) -> usize {
 
 /// Whether one of the steps before this place wrote the cell.
 fn was_asked(place: usize, cell: Cell) -> bool {
-    STEPS.iter().take(place).any(|step| step.writes == Some(cell))
+    STEPS
+        .iter()
+        .take(place)
+        .any(|step| step.writes == Some(cell))
 }
 
 /// At how many calls node 1 stops, with this outcome, until there is none left.
