@@ -1,7 +1,7 @@
 //! Who is heard of, who is marked down, and how many replicas a level waits for.
 
 use changes::Partition;
-use cs_base::{Bytes, Items, Level, NodeId};
+use cs_base::{Bytes, Items, Level, Micros, NodeId};
 use peer_messages::{
     Setting, TableSetting, copy_nodes, count_up, heard_of, is_in, marked, nodes_up, with_heard,
 };
@@ -61,6 +61,7 @@ fn waits_by_the_factor_of_the_table(rt: HostRuntime) -> Result<(), Fail> {
     let setting = Setting {
         ring: Ring::new(&[-3, 0, 3, 6])?,
         tables,
+        expiry: Micros::new(10_800_000_000),
     };
     for (table, level, needed, replicas) in [
         (0, Level::All, 2, [0, 1, 9]),

@@ -1,97 +1,29 @@
 //! Three nodes, each a replica, stepped by hand: what is lost, repeated and reordered, and each refusal.
 
-use changes::{Bound, Draft, DraftMutation, Partition, Place, Query, ShownRow};
-use cs_base::{Bytes, Items, Level, Micros, NodeId, ReqId, Text};
-use node_core::{Node, StepError};
-use peer_messages::{
-    Ask, Body, Entry, Event, Invalid, Message, Messages, Outputs, Plan, Refusal, Setting,
-    TableSetting, What,
-};
-use statement_plan::{Columns, Fault};
-use std::alloc::{AllocError, Global};
+use crate::plans::{read, write};
+use crate::site::{Site, id, setting};
+use crate::told::{Told, last_told};
+use cs_base::{Level, Micros, NodeId, ReqId, Text};
+use cs_store::{MemStore, Outcome};
+use list_replica::MemListReplica;
+use peer_messages::{Ask, Body, Invalid, Message, Messages, Outputs, Plan, Refusal, What};
+use statement_plan::Fault;
+use std::alloc::Global;
 use std::test::Fail;
-use token_ring::Ring;
 
-/// What a step told last.
-#[derive(Clone, Copy)]
-enum Told {
-    Nothing,
-    Begun,
-    /// By so many replicas.
-    Acked(usize),
-    /// The first byte of the only value, if a row is shown.
-    Shown(Option<u8>),
-    Refused(Refusal),
-    Used,
-    Other,
-}
-
-fn setting(alloc: Global, tokens: &[i64], factor: u8) -> Result<Setting, Fail> {
-    let mut tables = Items::new(alloc);
-    tables.push(TableSetting { factor })?;
-    Ok(Setting {
-        ring: Ring::new(tokens)?,
-        tables,
-    })
-}
-
-fn id(number: u8) -> Result<NodeId, Fail> {
-    Ok(NodeId::new(number).ok_or("no such node")?)
-}
+/// A node as these tests step it.
+type Tested = Site<MemListReplica>;
 
 /// One of three nodes.
-fn node(alloc: Global, number: u8) -> Result<Node, Fail> {
+fn node(alloc: Global, number: u8) -> Result<Tested, Fail> {
     let setting = setting(alloc, &[-3, 0, 3], 3)?;
-    Ok(Node::load(alloc, id(number)?, setting))
+    Site::load(alloc, id(number)?, setting, MemStore::formatted(alloc)?)
 }
 
 /// A node that is the only one.
-fn lone_node(alloc: Global) -> Result<Node, Fail> {
+fn lone_node(alloc: Global) -> Result<Tested, Fail> {
     let setting = setting(alloc, &[0], 1)?;
-    Ok(Node::load(alloc, NodeId::FIRST, setting))
-}
-
-fn partition(alloc: Global) -> Result<Partition, AllocError> {
-    Ok(Partition {
-        table: 0,
-        token: 1,
-        key: Bytes::from_slice(alloc, b"k")?,
-    })
-}
-
-fn draft(alloc: Global, value: &[u8], timestamp: i64) -> Result<Draft, AllocError> {
-    Ok(Draft {
-        place: Place::Cell(Bytes::from_slice(alloc, b"a")?, 2),
-        value: Some(Bytes::from_slice(alloc, value)?),
-        timestamp: Some(timestamp),
-    })
-}
-
-/// A write of the value to the one cell of these tests.
-fn write(alloc: Global, value: &[u8], timestamp: i64) -> Result<Plan, AllocError> {
-    let mut changes = Items::new(alloc);
-    changes.push(draft(alloc, value, timestamp)?)?;
-    let partition = partition(alloc)?;
-    Ok(Plan::Write(DraftMutation { partition, changes }))
-}
-
-fn bound(alloc: Global, after: bool) -> Result<Bound, AllocError> {
-    Ok(Bound {
-        at: Bytes::from_slice(alloc, b"")?,
-        after,
-    })
-}
-
-/// A read of the whole partition.
-fn read(alloc: Global) -> Result<Plan, AllocError> {
-    let query = Query {
-        partition: partition(alloc)?,
-        from: bound(alloc, false)?,
-        upto: bound(alloc, true)?,
-        reversed: false,
-        limit: 10,
-    };
-    Ok(Plan::Read(query, Columns::Count))
+    Site::load(alloc, NodeId::FIRST, setting, MemStore::formatted(alloc)?)
 }
 
 fn acknowledgement(from: u8, request: ReqId) -> Result<Message, Fail> {
@@ -106,9 +38,11 @@ fn acknowledgement(from: u8, request: ReqId) -> Result<Message, Fail> {
 }
 
 /// Takes what comes, with a clock that stands at 0.
-fn take(alloc: Global, node: &mut Node, what: What) -> Result<Outputs, StepError> {
-    let clock = Micros::new(0);
-    node.step(alloc, Event { clock, what })
+fn take(alloc: Global, node: &mut Tested, what: What) -> Result<Outputs, Fail> {
+    match node.step(alloc, 0, what) {
+        Ok(outputs) => Ok(outputs),
+        Err(_) => Err("no step".into()),
+    }
 }
 
 fn message_to(upto: u8, messages: Messages) -> Option<Message> {
@@ -123,7 +57,7 @@ fn message_to(upto: u8, messages: Messages) -> Option<Message> {
 /// The message that goes to this node, when a client asks. Those to the other nodes are lost.
 fn asked(
     alloc: Global,
-    node: &mut Node,
+    node: &mut Tested,
     plan: Plan,
     level: Level,
     upto: u8,
@@ -133,36 +67,19 @@ fn asked(
 }
 
 /// The message that goes back to this node, when a message comes.
-fn replied(alloc: Global, node: &mut Node, message: Message, upto: u8) -> Result<Message, Fail> {
+fn replied(alloc: Global, node: &mut Tested, message: Message, upto: u8) -> Result<Message, Fail> {
     let outputs = take(alloc, node, What::Deliver(message))?;
     Ok(message_to(upto, outputs.sends).ok_or("no message to this node")?)
 }
 
-fn value_of(rows: &[ShownRow]) -> Option<u8> {
-    let cell = rows.first()?.cells.as_slice().first()?;
-    Some(*cell.value.as_slice().first()?)
-}
-
-fn last_told(outputs: &Outputs) -> Told {
-    match outputs.entries.as_slice().last() {
-        None => Told::Nothing,
-        Some(Entry::Submitted(_, _) | Entry::Began(_, _, _, _)) => Told::Begun,
-        Some(Entry::Acked(_, _, heard)) => Told::Acked(heard.as_slice().len()),
-        Some(Entry::Rows(_, rows, _, _)) => Told::Shown(value_of(rows.as_slice())),
-        Some(Entry::Refused(_, refusal)) => Told::Refused(*refusal),
-        Some(Entry::Used(_, _)) => Told::Used,
-        Some(_) => Told::Other,
-    }
-}
-
 /// What is told when a client asks. All messages are lost.
-fn told_at(alloc: Global, node: &mut Node, plan: Plan, level: Level) -> Result<Told, Fail> {
+fn told_at(alloc: Global, node: &mut Tested, plan: Plan, level: Level) -> Result<Told, Fail> {
     let outputs = take(alloc, node, What::Client(Ask { plan, level }))?;
     Ok(last_told(&outputs))
 }
 
 /// What is told when a message comes.
-fn told_of(alloc: Global, node: &mut Node, message: Message) -> Result<Told, Fail> {
+fn told_of(alloc: Global, node: &mut Tested, message: Message) -> Result<Told, Fail> {
     let outputs = take(alloc, node, What::Deliver(message))?;
     Ok(last_told(&outputs))
 }
@@ -284,14 +201,14 @@ fn requests_are_refused(rt: HostRuntime) -> Result<(), Fail> {
     Ok(())
 }
 
-fn mark(alloc: Global, node: &mut Node, peer: u8, up: bool) -> Result<(), Fail> {
+fn mark(alloc: Global, node: &mut Tested, peer: u8, up: bool) -> Result<(), Fail> {
     let outputs = take(alloc, node, What::Alive(id(peer)?, up))?;
     let is_quiet = outputs.sends.as_slice().is_empty() && outputs.entries.as_slice().is_empty();
     Ok(is_quiet.then_some(()).ok_or("a mark gives something")?)
 }
 
 /// The other nodes to which a write at this level goes, as the bits of their numbers.
-fn written_to(alloc: Global, node: &mut Node, level: Level) -> Result<u8, Fail> {
+fn written_to(alloc: Global, node: &mut Tested, level: Level) -> Result<u8, Fail> {
     let plan = write(alloc, b"x", 5)?;
     let outputs = take(alloc, node, What::Client(Ask { plan, level }))?;
     let mut nodes = 0;
@@ -305,18 +222,22 @@ fn written_to(alloc: Global, node: &mut Node, level: Level) -> Result<u8, Fail> 
 fn dead_replicas_are_not_asked(rt: HostRuntime) -> Result<(), Fail> {
     let alloc = rt.alloc();
     let mut first = node(alloc, 0)?;
-    for (peer, up, others) in [
-        (1, false, 0b100),
-        (1, false, 0b100),
-        (0, false, 0b100),
-        (5, false, 0b100),
-        (2, true, 0b100),
-        (1, true, 0b110),
-        (2, false, 0b010),
+    for (peer, up, others, down) in [
+        (1, false, 0b100, 0b010),
+        (1, false, 0b100, 0b010),
+        (0, false, 0b100, 0b010),
+        (5, false, 0b100, 0b010),
+        (2, true, 0b100, 0b010),
+        (1, true, 0b110, 0),
+        (2, false, 0b010, 0b100),
     ] {
         mark(alloc, &mut first, peer, up)?;
+        assert_eq!(rt; first.down(), down);
         assert_eq!(rt; written_to(alloc, &mut first, Level::Quorum)?, others);
     }
+    let setting = setting(alloc, &[-3, 0, 3], 3)?;
+    let loaded = Tested::load(alloc, NodeId::FIRST, setting, first.crashed(Outcome::Lost))?;
+    assert_eq!(rt; loaded.down(), 0);
     Ok(())
 }
 
@@ -367,30 +288,6 @@ fn statements_without_a_partition_are_answered(rt: HostRuntime) -> Result<(), Fa
 fn time_has_an_end(rt: HostRuntime) -> Result<(), Fail> {
     let alloc = rt.alloc();
     let mut alone = lone_node(alloc)?;
-    let clock = Micros::new(u64::MAX);
-    let what = What::Tick;
-    let outputs = alone.step(alloc, Event { clock, what })?;
-    assert_eq!(rt; outputs.time.count(), 1 << 62);
-    Ok(())
-}
-
-#[test]
-fn no_time_is_left(rt: HostRuntime) -> Result<(), Fail> {
-    let alloc = rt.alloc();
-    let mut alone = lone_node(alloc)?;
-    let request = ReqId {
-        node: NodeId::FIRST,
-        time: Micros::new(1),
-    };
-    let message = Message {
-        from: NodeId::FIRST,
-        upto: NodeId::FIRST,
-        time: Micros::new(u64::MAX),
-        born: Micros::new(1),
-        request,
-        body: Body::WriteAck,
-    };
-    let refused = take(alloc, &mut alone, What::Deliver(message));
-    assert!(rt; matches!(refused, Err(StepError::NoRoom)));
+    assert_eq!(rt; alone.time_at(alloc, u64::MAX)?, 1 << 62);
     Ok(())
 }
