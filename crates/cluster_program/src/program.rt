@@ -17,12 +17,11 @@ use crate::streams::{ReadError, read_all, write_all};
 use chronicle_print::push_number;
 use cs_base::Failed;
 use cs_io::{Sink, Source};
-use cs_store::MemStore;
 use fault_script::{
     ParseError, Script, ScriptError, one_reading, parse, scripts_have_an_expiry,
     statements_are_read,
 };
-use list_replica::ListReplica;
+use list_replica::MemListReplica;
 use std::alloc::{AllocError, Global};
 
 /// How the program ended. `script` never ends with `StoreFault`, `DoorFault`, `NoThread`, `HistoryFull` or `Damaged`,
@@ -134,7 +133,7 @@ fn print_run<S: Source>(alloc: Global, source: &mut S) -> Result<Vec<u8>, Refusa
     ensures failed { IsErrOf result Refusal.ReadFault → HasRisen (S.faults source.old) (S.faults source.new) }
 {
     let script = read_script(alloc, source)?;
-    Ok(run::<ListReplica<MemStore>>(alloc, &script)?)
+    Ok(run::<MemListReplica>(alloc, &script)?)
 }
 
 /// The command that the words name.

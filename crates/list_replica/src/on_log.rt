@@ -12,10 +12,10 @@ use cell_merge::Content;
 use changes::{Bound, Partition};
 use commit_log::{CommitLog, LogEntries, LogError, ReserveError};
 use cs_base::{Failed, Micros, Range};
-use cs_store::{FileNo, MemStore, Outcome, Store};
+use cs_store::{FileNo, Store};
 use replica::{
-    CallError, FinishError, Graces, Kept, LoadError, MemReplica, MergeDone, MergeJob, Partitions,
-    Purges, Replica, RoomError,
+    CallError, FinishError, Graces, Kept, LoadError, MergeDone, MergeJob, Partitions, Purges,
+    Replica, RoomError,
 };
 use row_change::{LogEntry, LogItem};
 use std::alloc::Global;
@@ -29,11 +29,11 @@ const FLUSHED_EACH: u64 = 1 << 20;
 /// What a node keeps, in one log of a store, and in memory the contents that the log's entries make.
 #[derive(Drop)]
 pub struct ListReplica<S> {
-    store: S,
-    log: CommitLog,
-    memtable: Memtable,
+    pub(crate) store: S,
+    pub(crate) log: CommitLog,
+    pub(crate) memtable: Memtable,
     /// How many bytes came to the log since the last flush.
-    since_flush: Option<u64>,
+    pub(crate) since_flush: Option<u64>,
 }
 
 /// The file of the log.
@@ -219,15 +219,5 @@ impl<S: Store + Drop> Replica for ListReplica<S> {
 
     fn release(self) -> S {
         self.store
-    }
-}
-
-impl MemReplica for ListReplica<MemStore> {
-    fn fail_at(&mut self, j: u32) {
-        self.store.fail_at(j);
-    }
-
-    fn stop_at(&mut self, j: u32, outcome: Outcome) {
-        self.store.stop_at(j, outcome);
     }
 }

@@ -31,3 +31,9 @@ returns-clause-ok g c =
     (λ (turn : Turn). TurnsAt m c.args.nodes.items c.args.seats.now.items c.args.node c.args.what turn (slice_set c.args.seats.now.items c.from.result c.take.new.self))
     c.take.ensures.ok
     (λ turn h. at_seat (λ (x y : Seat g.row.R.Denot). Turns m c.args.nodes.items x (event_at x.clock c.args.what) turn y) (turn ≡ NoNode) c.args.seats.now.items c.args.node c.from.result seat c.take.new.self number at h)
+
+pub take-requires : goal.take-requires
+take-requires g c =
+    let seat : Seat g.row.R.Denot = c.in-Some.seat.now in
+    let within = ltb-true _ _ (sym c.in-Some.ensures.item.0) in
+    c.requires c.from.result seat (slice_get-get_or c.args.seats.now.items c.from.result seat within ∙ ap Some (sym c.in-Some.ensures.item.1))
