@@ -212,8 +212,7 @@ fn is_between(from: &Bound, upto: &Bound, row: &[u8]) -> bool
     from.is_before(row) && upto.is_behind(row)
 }
 
-/// The order of places that are not in one row. Most places are: kept out of their comparison, which stays small.
-#[inline(never)]
+/// The order of places that are not in one row.
 fn wide_order(a: &Place, b: &Place) -> Ordering
     requires first { row_of a.now ≡ None }
     requires second { row_of b.now ≡ None }
@@ -230,6 +229,23 @@ fn wide_order(a: &Place, b: &Place) -> Ordering
         (Place::RangeGone(_, _), _) => Ordering::Greater,
         (_, Place::RangeGone(_, _)) => Ordering::Less,
         _ => Ordering::Equal,
+    }
+}
+
+/// The order of places of any kind. Most places that are compared are cells: kept out of their comparison, which stays small.
+#[inline(never)]
+fn mixed_order(a: &Place, b: &Place) -> Ordering
+    ensures { result ≡ place_cmp a.now b.now }
+{
+    match (a.row(), b.row()) {
+        (Some(row), Some(beside)) => match row.cmp(beside) {
+            Ordering::Equal => a.step().cmp(&b.step()),
+            Ordering::Less => Ordering::Less,
+            Ordering::Greater => Ordering::Greater,
+        },
+        (Some(_), None) => Ordering::Greater,
+        (None, Some(_)) => Ordering::Less,
+        (None, None) => wide_order(a, b),
     }
 }
 
@@ -286,15 +302,13 @@ impl Ord for Place {
     ghost matches_eq = { λ a b. refl };
 
     fn cmp(&self, other: &Place) -> Ordering {
-        match (self.row(), other.row()) {
-            (Some(row), Some(beside)) => match row.cmp(beside) {
-                Ordering::Equal => self.step().cmp(&other.step()),
+        match (self, other) {
+            (Place::Cell(row, column), Place::Cell(beside, facing)) => match row.cmp(beside) {
+                Ordering::Equal => column.cmp(facing),
                 Ordering::Less => Ordering::Less,
                 Ordering::Greater => Ordering::Greater,
             },
-            (Some(_), None) => Ordering::Greater,
-            (None, Some(_)) => Ordering::Less,
-            (None, None) => wide_order(self, other),
+            _ => mixed_order(self, other),
         }
     }
 }

@@ -305,12 +305,18 @@ fn fronts_are_short(alloc: Global, bytes: &[u8]) -> bool {
     true
 }
 
-/// Whether each change of one byte is refused, or is another word.
+/// What bytes are changed by: each change of the low four bits, so that each tag and small count becomes each other one, each
+/// of the high bits, and all bits.
+const MASKS: [u8; 20] = [
+    1, 2, 3, 4, 5, 6, 7, 8, 9, 10, 11, 12, 13, 14, 15, 0x10, 0x20, 0x40, 0x80, 0xff,
+];
+
+/// Whether each of these changes of one byte is refused, or gives another word.
 fn changed_bytes_are_sound(alloc: Global, bytes: &mut [u8]) -> Result<bool, AllocError> {
     for at in 0..bytes.len() {
         let kept = bytes[at];
-        for mask in 1..256u16 {
-            bytes[at] = kept ^ (mask as u8);
+        for mask in MASKS {
+            bytes[at] = kept ^ mask;
             if !is_sound(alloc, bytes)? {
                 return Ok(false);
             }
