@@ -1,0 +1,7 @@
+pub mod Names
+pub mod Changing
+pub mod Slots
+pub mod Faults
+pub mod Orders
+pub mod Structure
+pub mod Prepared
