@@ -123,13 +123,19 @@ condition_slots columns (Some (conditions.Tests tests)) = map (test_slot columns
 
 -- ---- USING TIMESTAMP, LIMIT
 
+abbrev pub stamp_slot : Stamp → Slot
+stamp_slot s = slot_of (codes "[timestamp]") types.Bigint roles.Timestamp s.timestamp
+
 abbrev pub stamp_slots : Option Stamp → List Slot
 stamp_slots None = []
-stamp_slots (Some s) = slot_of (codes "[timestamp]") types.Bigint roles.Timestamp s.timestamp ∷ []
+stamp_slots (Some s) = stamp_slot s ∷ []
+
+abbrev pub limit_slot : Term → Slot
+limit_slot term = slot_of (codes "[limit]") types.Int roles.Limit term
 
 abbrev pub limit_slots : Option Term → List Slot
 limit_slots None = []
-limit_slots (Some term) = slot_of (codes "[limit]") types.Int roles.Limit term ∷ []
+limit_slots (Some term) = limit_slot term ∷ []
 
 -- ---- statements
 

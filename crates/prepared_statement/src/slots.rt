@@ -2,7 +2,7 @@
 
 ghost use Rattle.std.specs.Prelude.{◌≡◌, ◌++◌, IfOk, OnOk, map};
 ghost use Rattle.prepared_statement.specs.Changing.{modification_in};
-ghost use Rattle.prepared_statement.specs.Slots.{relation_role as relation_role_of, entry_role as entry_role_of, relation_slot as relation_slot_of, assignment_slot as assignment_slot_of, deleted_slot as deleted_slot_of, entry_slot as entry_slot_of, unfilled_slot as unfilled_slot_of, unplaced_slot as unplaced_slot_of, entry_slots, test_slot as test_slot_of, condition_slots, stamp_slots, limit_slots, insert_slots, update_slots, delete_slots, select_slots, slots_of as slots_of_modification};
+ghost use Rattle.prepared_statement.specs.Slots.{relation_role as relation_role_of, entry_role as entry_role_of, relation_slot as relation_slot_of, assignment_slot as assignment_slot_of, deleted_slot as deleted_slot_of, entry_slot as entry_slot_of, unfilled_slot as unfilled_slot_of, unplaced_slot as unplaced_slot_of, entry_slots, test_slot as test_slot_of, condition_slots, stamp_slot as stamp_slot_of, stamp_slots, limit_slot as limit_slot_of, limit_slots, insert_slots, update_slots, delete_slots, select_slots, slots_of as slots_of_modification};
 
 use crate::changing::Changing;
 use crate::constants::slot;
@@ -234,6 +234,18 @@ fn push_condition(
     }
 }
 
+fn stamp_slot(alloc: Global, stamp: &Stamp) -> Result<Slot, AllocError>
+    ensures { IfOk result (λ slot. slot ≡ stamp_slot_of stamp.now) }
+{
+    slot(
+        alloc,
+        "[timestamp]",
+        CqlType::Bigint,
+        Role::Timestamp,
+        &stamp.timestamp,
+    )
+}
+
 /// `USING TIMESTAMP`.
 pub(crate) fn push_stamp(
     slots: &mut Slots,
@@ -243,23 +255,22 @@ pub(crate) fn push_stamp(
     ensures { OnOk result (slots.new ≡ slots.old ++ stamp_slots stamp.now) }
 {
     if let Some(stamp) = stamp {
-        let role = Role::Timestamp;
-        slots.push(slot(
-            alloc,
-            "[timestamp]",
-            CqlType::Bigint,
-            role,
-            &stamp.timestamp,
-        )?)?;
+        slots.push(stamp_slot(alloc, stamp)?)?;
     }
     Ok(())
+}
+
+fn limit_slot(alloc: Global, term: &Term) -> Result<Slot, AllocError>
+    ensures { IfOk result (λ slot. slot ≡ limit_slot_of term.now) }
+{
+    slot(alloc, "[limit]", CqlType::Int, Role::Limit, term)
 }
 
 fn push_limit(slots: &mut Slots, alloc: Global, limit: &Option<Term>) -> Result<(), AllocError>
     ensures { OnOk result (slots.new ≡ slots.old ++ limit_slots limit.now) }
 {
     if let Some(term) = limit {
-        slots.push(slot(alloc, "[limit]", CqlType::Int, Role::Limit, term)?)?;
+        slots.push(limit_slot(alloc, term)?)?;
     }
     Ok(())
 }

@@ -77,11 +77,7 @@ impl<'a> Supply<'a> {
     }
 
     /// The slots before the statements of a batch with their values.
-    pub(crate) fn fill_front(
-        &mut self,
-        alloc: Global,
-        slots: &[Slot],
-    ) -> Result<Filled, AllocError>
+    pub(crate) fn fill_front(&mut self, alloc: Global, slots: &[Slot]) -> Result<Filled, AllocError>
         ensures values { IfOk result (λ filled. filled ≡ front_filled (left_for self.old) slots.now) }
         ensures left { OnOk result (left_for self.new ≡ behind_front (left_for self.old) slots.now) }
     {
