@@ -34,6 +34,15 @@ fn is_ascii(bytes: &[u8]) -> bool
     }
 }
 
+fn is_text(bytes: &[u8]) -> bool
+    ensures { result ≡ fits_of types.Text bytes.now }
+{
+    match str::from_utf8(bytes) {
+        Ok(_) => true,
+        Err(_) => false,
+    }
+}
+
 fn is_timeuuid(bytes: &[u8]) -> bool
     ensures { result ≡ fits_of types.Timeuuid bytes.now }
 {
@@ -50,7 +59,7 @@ pub fn fits(ty: CqlType, bytes: &[u8]) -> bool
     match ty {
         CqlType::Ascii => is_ascii(bytes),
         CqlType::Blob => true,
-        CqlType::Text => str::from_utf8(bytes).is_ok(),
+        CqlType::Text => is_text(bytes),
         CqlType::Bigint | CqlType::Timestamp => bytes.len() == 8,
         CqlType::Int => bytes.len() == 4,
         CqlType::Smallint => bytes.len() == 2,
