@@ -5,3 +5,4 @@ pub mod Faults
 pub mod Orders
 pub mod Structure
 pub mod Prepared
+pub mod Markers

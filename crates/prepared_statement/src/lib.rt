@@ -10,6 +10,7 @@ mod changing;
 mod columns;
 mod constants;
 mod faults;
+mod markers;
 mod names;
 mod orders;
 mod prepared;
@@ -19,6 +20,7 @@ mod structure;
 
 pub use change::{Action, Batch, Change, Changes, Guard, Read};
 pub use faults::{bigint_in, fits, int_in, is_marker, lower, slot_fault, value_at};
+pub use markers::{Marker, MarkerList, MarkerNumbers, Markers};
 pub use names::column_number;
 pub use prepared::{Prepared, UseKeyspace, condition_fault, empty_fault, outline};
 pub use slot::{Role, Slot, Slots, Stands};

@@ -4,3 +4,5 @@ pub mod Changes
 pub mod Plans
 pub mod Answers
 pub mod Meanings
+pub mod Refusals
+pub mod Laws

@@ -5,6 +5,7 @@ mod binder;
 mod drafts;
 mod error;
 mod filled;
+mod laws;
 mod piece;
 mod reach;
 mod reads;
@@ -13,4 +14,5 @@ mod writes;
 
 pub use binder::{bind, fill, prepare};
 pub use error::BindError;
+pub use laws::lowest_is_told;
 pub use supply::Values;
