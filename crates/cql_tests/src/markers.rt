@@ -8,7 +8,7 @@ use cql_statement::Statements;
 use cs_base::Items;
 use prepared_statement::Markers;
 use schema_book::Schema;
-use statement_binder::{lowest_is_told, prepare};
+use statement_binder::{lasting_refusals_hold, lowest_is_told, prepare, preparing_tells_lowest};
 use std::alloc::Global;
 use std::fmt::Write;
 use std::test::Fail;
@@ -45,7 +45,7 @@ fn print_markers(out: &mut String, markers: &Markers) -> Result<(), Fail> {
     Ok(())
 }
 
-fn markers(alloc: Global, schema: &Schema, text: &str) -> Result<String, Fail> {
+fn printed(alloc: Global, schema: &Schema, text: &str) -> Result<String, Fail> {
     let mut out = String::new(alloc);
     if let Ok(statement) = parse(alloc, text) {
         if let Ok(prepared) = prepare(alloc, schema, Some("ks"), &statement) {
@@ -58,7 +58,7 @@ fn markers(alloc: Global, schema: &Schema, text: &str) -> Result<String, Fail> {
 /// Adds a row as it is, where it is wrong.
 fn add_wrong(out: &mut String, alloc: Global, schema: &Schema, row: &str) -> Result<(), Fail> {
     let (text, expected) = row.split_once(" => ").unwrap_or((row, ""));
-    let found = markers(alloc, schema, text)?;
+    let found = printed(alloc, schema, text)?;
     if found.as_str() != expected {
         let found = found.as_str();
         write!(out, "{text} => {found}\n")?;
@@ -66,7 +66,7 @@ fn add_wrong(out: &mut String, alloc: Global, schema: &Schema, row: &str) -> Res
     Ok(())
 }
 
-const MARKERS: &str =
+const ROWS: &str =
     "INSERT INTO two (b, a, v, c) VALUES (?, ?, ?, 1) USING TIMESTAMP ? => 2 b Text a Int v Uuid [timestamp] Bigint key 1 0
 INSERT INTO two (b, a, v, c) VALUES ('x', ?, ?, ?) => 2 a Int v Uuid c Int key
 UPDATE t USING TIMESTAMP :at SET v = ? WHERE k = ? AND c = ? => 1 at Bigint v Text k Int c Int key 2
@@ -83,7 +83,7 @@ fn markers_have_names_and_types(rt: HostRuntime) -> Result<(), Fail> {
     let alloc = rt.alloc();
     let schema = schema(alloc)?;
     let mut out = String::new(alloc);
-    for row in MARKERS.lines() {
+    for row in ROWS.lines() {
         add_wrong(&mut out, alloc, &schema, row)?;
     }
     assert_eq!(rt; out.as_str(), "");
@@ -91,7 +91,9 @@ fn markers_have_names_and_types(rt: HostRuntime) -> Result<(), Fail> {
 }
 
 #[test]
-fn lowest_refusal_is_a_law(_rt: HostRuntime) -> Result<(), Fail> {
+fn laws_are_told(_rt: HostRuntime) -> Result<(), Fail> {
     lowest_is_told();
+    preparing_tells_lowest();
+    lasting_refusals_hold();
     Ok(())
 }

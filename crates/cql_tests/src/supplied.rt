@@ -15,7 +15,7 @@ enum Seen {
     Byte(u8),
 }
 
-fn seen(param: Option<&Param>) -> Seen {
+fn outcome(param: Option<&Param>) -> Seen {
     match param {
         None => Seen::Missing,
         Some(Param::Null) => Seen::Null,
@@ -37,13 +37,13 @@ fn markers_take_the_values_in_their_order(rt: HostRuntime) -> Result<(), Fail> {
     values.push(Param::NotSet)?;
     let params = Params::ByPlace(values);
     let mut supplier = Supplier::new(&params);
-    assert_eq!(rt; seen(supplier.take("a")), Seen::Byte(1));
-    assert_eq!(rt; seen(supplier.take("a")), Seen::Null);
+    assert_eq!(rt; outcome(supplier.take("a")), Seen::Byte(1));
+    assert_eq!(rt; outcome(supplier.take("a")), Seen::Null);
     assert!(rt; supplier.has_left());
-    assert_eq!(rt; seen(supplier.take("b")), Seen::NotSet);
+    assert_eq!(rt; outcome(supplier.take("b")), Seen::NotSet);
     assert!(rt; !supplier.has_left());
-    assert_eq!(rt; seen(supplier.take("a")), Seen::Missing);
-    assert_eq!(rt; seen(Supplier::empty().take("a")), Seen::Missing);
+    assert_eq!(rt; outcome(supplier.take("a")), Seen::Missing);
+    assert_eq!(rt; outcome(Supplier::empty().take("a")), Seen::Missing);
     Ok(())
 }
 
@@ -55,10 +55,10 @@ fn markers_take_the_values_of_their_names(rt: HostRuntime) -> Result<(), Fail> {
     values.insert(String::from_str(alloc, "c")?, byte(alloc, 6)?)?;
     let params = Params::ByName(values);
     let mut supplier = Supplier::new(&params);
-    assert_eq!(rt; seen(supplier.take("n")), Seen::Byte(5));
-    assert_eq!(rt; seen(supplier.take("n")), Seen::Byte(5));
-    assert_eq!(rt; seen(supplier.take("c")), Seen::Byte(6));
-    assert_eq!(rt; seen(supplier.take("m")), Seen::Missing);
+    assert_eq!(rt; outcome(supplier.take("n")), Seen::Byte(5));
+    assert_eq!(rt; outcome(supplier.take("n")), Seen::Byte(5));
+    assert_eq!(rt; outcome(supplier.take("c")), Seen::Byte(6));
+    assert_eq!(rt; outcome(supplier.take("m")), Seen::Missing);
     assert!(rt; !supplier.has_left());
     Ok(())
 }

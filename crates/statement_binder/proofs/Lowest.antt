@@ -89,7 +89,7 @@ holds_append (r ∷ rs) ss f (inl (inl h)) = inl h
 holds_append (r ∷ rs) ss f (inl (inr h)) = inr (holds_append rs ss f (inl h))
 holds_append (r ∷ rs) ss f (inr h) = inr (holds_append rs ss f (inr h))
 
-holds_split : (rs ss : List Refusal) (f : Fault) → Holds (rs ++ ss) f → Holds rs f ⊎ Holds ss f
+pub holds_split : (rs ss : List Refusal) (f : Fault) → Holds (rs ++ ss) f → Holds rs f ⊎ Holds ss f
 holds_split [] ss f h = inr h
 holds_split (r ∷ rs) ss f (inl h) = inl (inl h)
 holds_split (r ∷ rs) ss f (inr h) = elim (holds_split rs ss f h) [ inl k ↦ inl (inr k) | inr k ↦ inr k ]

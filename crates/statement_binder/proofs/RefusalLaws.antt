@@ -64,7 +64,7 @@ use Rattle.statement_binder.proofs.Lowest.{AtMost, all_least, at_most, holds_app
 
 -- ---- values
 
-slot_told : (s : Slot) (given : Option Param) → Tells (slot_refusals s given) (slot_fault s given)
+pub slot_told : (s : Slot) (given : Option Param) → Tells (slot_refusals s given) (slot_fault s given)
 slot_told s given =
     tells_if (mismatches s given) fault.TypeMismatch refl
     (tells_if (misses s given) fault.ValueCount refl
@@ -140,7 +140,7 @@ structure_told columns m slots keys =
     (feature_told (cond (tests_key columns slots) (Some feature.Condition) None) (filters slots) feature.Filtering refl
     (feature_told None (tests_key columns slots) feature.Condition refl tells_none))))))
 
-form_told : (t : Option Table) (m : Modification) → Tells (form_refusals t m) (change_in t m).fault
+pub form_told : (t : Option Table) (m : Modification) → Tells (form_refusals t m) (change_in t m).fault
 form_told t m = tells_both (table_told t) (structure_told (columns_in t) m (slots_of (columns_in t) m) (keys_of (slots_of (columns_in t) m)))
 
 size_told : (partition : Partition) (at : Reach) → Tells (size_refusals partition at) (size_fault partition at)
@@ -172,7 +172,7 @@ select_structure_told columns slots keys places os =
     (feature_told (cond (has_bad_order columns os) (Some feature.OrderBy) None) (filters slots) feature.Filtering refl
     (feature_told None (has_bad_order columns os) feature.OrderBy refl tells_none))))
 
-select_form_told : (t : Option Table) (s : Select) → Tells (select_form_refusals t s) (read_in t s).fault
+pub select_form_told : (t : Option Table) (s : Select) → Tells (select_form_refusals t s) (read_in t s).fault
 select_form_told t s =
     tells_both (table_told t)
     (select_structure_told (columns_in t) (select_slots (columns_in t) s) (keys_of (select_slots (columns_in t) s)) (shown_places (columns_in t) s.selection) s.orders)
@@ -197,7 +197,7 @@ read_told t s left =
 
 -- ---- BATCH
 
-condition_told : (guard : Guard) → Tells (condition_refusals guard) (condition_fault guard)
+pub condition_told : (guard : Guard) → Tells (condition_refusals guard) (condition_fault guard)
 condition_told guard = tells_if (is_conditional guard) (fault.NotSupported feature.Condition) refl tells_none
 
 entry_told : (t : Option Table) (m : Modification) (left : Left) (timestamp : Option ℤ)
@@ -246,11 +246,13 @@ told one rs None q Long t most there back (Err (error.Refused f)) h =
 told one rs None q Long t most there back (Err error.NoMemory) h = tt
 told one rs (Some x) q Long t most there back (Ok p) h = absurd h
 told one rs (Some x) q Long t most there back (Err (error.Refused f)) h =
-    subst (λ (y : Fault). IsLowest (Refused rs Long) (Some y)) (sym h)
-    (inl t.is.0, λ g k. elim k [
-      | inl y ↦ t.is.1 g y
-      | inr y ↦ subst (λ (z : Fault). number_of x ≤ number_of z) y.0 (most y.1 x t.is.0)
-    ])
+    subst (λ (y : Fault). IsLowest (Refused rs Long) (Some y)) (sym h) (
+      inl t.is.0,
+      λ g k. elim k [
+        | inl y ↦ t.is.1 g y
+        | inr y ↦ subst (λ (z : Fault). number_of x ≤ number_of z) y.0 (most y.1 x t.is.0)
+      ],
+    )
 told one rs (Some x) q Long t most there back (Err error.NoMemory) h = tt
 
 -- of statements that make no changes
@@ -375,7 +377,7 @@ create_answer one left answer h =
     let t = tells_at (before_is (idle_fault left) create) (tells_both (idle_told left) (tells_if true create refl tells_none)) in
     none_told one (idle_refusals left ++ refused_if create true ∷ []) (Some (refused_before (idle_fault left) create)) (plan.Use []) t (λ long. long) answer h
 
-there_told : (there : Bool) → Tells (refused_if fault.UnknownKeyspace (not there) ∷ []) (cond there None (Some fault.UnknownKeyspace))
+pub there_told : (there : Bool) → Tells (refused_if fault.UnknownKeyspace (not there) ∷ []) (cond there None (Some fault.UnknownKeyspace))
 there_told true = tells_if false fault.UnknownKeyspace refl tells_none
 there_told false = tells_if true fault.UnknownKeyspace refl tells_none
 

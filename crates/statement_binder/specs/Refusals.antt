@@ -1,5 +1,5 @@
 -- Why a statement is refused: each refusal with what it means, in no order. Of those that hold the lowest is told.
-use Rattle.std.specs.Prelude.{◌≡◌, ◌⊎◌, ◌≤◌, ℕ, ℤ, ◌||◌, not, is_none, is_some, Bool, true, List, [], ◌∷◌, ◌++◌, Option, Some, None, if◌then◌else◌, map}
+use Rattle.std.specs.Prelude.{◌≡◌, ◌⊎◌, ◌≤◌, ℕ, ℤ, ◌||◌, ◌&&◌, not, is_none, is_some, Bool, true, false, List, [], ◌∷◌, ◌++◌, Option, Some, None, if◌then◌else◌, map}
 use Rattle.changes.specs.declared.Partition.{Partition}
 use Rattle.cql_statement.specs.declared.modification.Batch.{Batch}
 use Rattle.cql_statement.specs.declared.modification.Modification.{Modification}
@@ -22,7 +22,7 @@ use Rattle.statement_plan.specs.declared.fault.Feature.TheVariants as feature
 use Rattle.statement_values.specs.Supply.{has_left}
 use Rattle.statement_values.specs.declared.params.Param.{Param}
 use Rattle.statement_values.specs.declared.params.Params.{Params}
-use Rattle.prepared_statement.specs.Faults.{mismatches, misses, is_null_key, is_long}
+use Rattle.prepared_statement.specs.Faults.{is_lone, is_marker, mismatches, misses, is_null_key, is_long}
 use Rattle.prepared_statement.specs.Names.{table_named}
 use Rattle.prepared_statement.specs.Orders.{has_bad_order}
 use Rattle.prepared_statement.specs.Prepared.{columns_in, change_in, read_in, outline_of, change_of}
@@ -214,6 +214,48 @@ refusals_of b used left timestamp (statement.Update u) = modification_refusals b
 refusals_of b used left timestamp (statement.Delete d) = modification_refusals b used left (modifications.Delete d)
 refusals_of b used left timestamp (statement.Select s) = read_refusals (table_named b used s.table) s left
 refusals_of b used left timestamp (statement.Batch x) = batch_refusals b used left timestamp x
+
+-- ---- whatever the values are
+
+-- for a marker of a column a request may give a value
+abbrev pub own_slot_refusals : Slot → List Refusal
+own_slot_refusals s = if is_marker s.stands && not (is_lone s.role) then [] else slot_refusals s None
+
+abbrev pub own_slots_refusals : List Slot → List Refusal
+own_slots_refusals [] = []
+own_slots_refusals (s ∷ ss) = own_slot_refusals s ++ own_slots_refusals ss
+
+abbrev pub lasting_change_refusals : Option Table → Modification → List Refusal
+lasting_change_refusals t m = form_refusals t m ++ own_slots_refusals (slots_of (columns_in t) m)
+
+abbrev pub lasting_entry_refusals : Option Table → Modification → List Refusal
+lasting_entry_refusals t m = condition_refusals (guard_of m) ++ lasting_change_refusals t m
+
+abbrev pub lasting_entries_refusals : Book → Option (List ℕ) → List Modification → List Refusal
+lasting_entries_refusals b used [] = []
+lasting_entries_refusals b used (m ∷ ms) =
+    lasting_entry_refusals (table_named b used (table_of_modification m)) m ++ lasting_entries_refusals b used ms
+
+abbrev pub is_empty_batch : List Modification → Bool
+is_empty_batch [] = true
+is_empty_batch (m ∷ ms) = false
+
+abbrev pub lasting_batch_refusals : Book → Option (List ℕ) → Batch → List Refusal
+lasting_batch_refusals b used x =
+    own_slots_refusals (stamp_slots x.stamp)
+    ++ (lasting_entries_refusals b used x.statements ++ refused_if (fault.NotSupported feature.Batch) (is_empty_batch x.statements) ∷ [])
+
+-- those that hold for all values alike
+abbrev pub lasting_refusals : Book → Option (List ℕ) → Statement → List Refusal
+lasting_refusals b used (statement.CreateKeyspace c) = refused_if (fault.NotSupported feature.Create) true ∷ []
+lasting_refusals b used (statement.CreateTable c) = refused_if (fault.NotSupported feature.Create) true ∷ []
+lasting_refusals b used (statement.Use u) = refused_if fault.UnknownKeyspace (not (is_some (keyspace_at b u.keyspace))) ∷ []
+lasting_refusals b used (statement.Insert i) = lasting_change_refusals (table_named b used i.table) (modifications.Insert i)
+lasting_refusals b used (statement.Update u) = lasting_change_refusals (table_named b used u.table) (modifications.Update u)
+lasting_refusals b used (statement.Delete d) = lasting_change_refusals (table_named b used d.table) (modifications.Delete d)
+lasting_refusals b used (statement.Select s) =
+    select_form_refusals (table_named b used s.table) s ++ own_slots_refusals (select_slots (columns_in (table_named b used s.table)) s)
+lasting_refusals b used (statement.Batch x) = lasting_batch_refusals b used x
 
 -- ---- changes that are too long
 

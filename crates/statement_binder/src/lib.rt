@@ -14,5 +14,5 @@ mod writes;
 
 pub use binder::{bind, fill, prepare};
 pub use error::BindError;
-pub use laws::lowest_is_told;
+pub use laws::{lasting_refusals_hold, lowest_is_told, preparing_tells_lowest};
 pub use supply::Values;
