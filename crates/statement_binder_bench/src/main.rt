@@ -39,7 +39,7 @@ impl Tally {
         if let Plan::Write(mutation) = plan {
             let changes = mutation.changes.as_slice().len() as u64;
             self.changes = self.changes.wrapping_add(changes);
-            let token = mutation.partition.token as u64;
+            let token = u64::from_be_bytes(mutation.partition.token.to_be_bytes());
             self.mix = self.mix.wrapping_mul(31).wrapping_add(token);
         }
     }
