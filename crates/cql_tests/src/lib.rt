@@ -6,6 +6,8 @@ mod conditions;
 #[cfg(test)]
 mod drafts;
 #[cfg(test)]
+mod markers;
+#[cfg(test)]
 mod parsing;
 #[cfg(test)]
 mod plans;

@@ -1,13 +1,14 @@
 //! Statements with their plans or refusals, in rows of text.
 //!
-//! A row is a statement, ` ## ` and values for its markers if there are any, ` => `, and the plan as it is printed here.
+//! A row is a statement, ` ## ` and values for its markers if there are any, ` => `, and the plan as it is printed here. Where
+//! each statement of a batch has its own values, ` | ` stands between their lists.
 
 use changes::{Bound, Draft, Drafts, Partition, Place, Query};
 use cql_parser::parse;
 use cql_statement::Statements;
 use cs_base::{Bytes, Items};
 use schema_book::Schema;
-use statement_binder::{BindError, bind};
+use statement_binder::{BindError, Values, bind, fill, prepare};
 use statement_plan::{CellTest, Columns, ConditionalOperation, Fault, Feature, Plan, Test};
 use statement_values::{Param, Params};
 use std::alloc::{AllocError, Global};
@@ -229,7 +230,7 @@ fn param(alloc: Global, word: &str) -> Result<Param, AllocError> {
     }
 }
 
-fn params_by_place(alloc: Global, words: &str) -> Result<Params, Fail> {
+fn params_by_place(alloc: Global, words: &str) -> Result<Params, AllocError> {
     let mut values = Items::new(alloc);
     for word in words.split_whitespace() {
         values.push(param(alloc, word)?)?;
@@ -237,7 +238,7 @@ fn params_by_place(alloc: Global, words: &str) -> Result<Params, Fail> {
     Ok(Params::ByPlace(values))
 }
 
-fn params_by_name(alloc: Global, words: &str) -> Result<Params, Fail> {
+fn params_by_name(alloc: Global, words: &str) -> Result<Params, AllocError> {
     let mut values = BTreeMap::new(alloc);
     for word in words.split_whitespace() {
         if let Some((name, value)) = word.split_once('=') {
@@ -247,12 +248,21 @@ fn params_by_name(alloc: Global, words: &str) -> Result<Params, Fail> {
     Ok(Params::ByName(values))
 }
 
-fn params(alloc: Global, words: &str) -> Result<Params, Fail> {
+fn params(alloc: Global, words: &str) -> Result<Params, AllocError> {
     if words.contains('=') {
         params_by_name(alloc, words)
     } else {
         params_by_place(alloc, words)
     }
+}
+
+/// A list of values for each statement.
+fn lists(alloc: Global, words: &str) -> Result<Items<Params>, Fail> {
+    let mut lists = Items::new(alloc);
+    for list in words.split('|') {
+        lists.push(params(alloc, list)?)?;
+    }
+    Ok(lists)
 }
 
 // ---- rows
@@ -281,6 +291,24 @@ fn print_bound(
     }
 }
 
+/// Prints what a statement that was prepared asks for with these values, or why it is not prepared.
+fn print_filled(
+    out: &mut String,
+    alloc: Global,
+    schema: &Schema,
+    used: Option<&str>,
+    text: &str,
+    values: Values,
+) -> Result<(), Fail> {
+    match parse(alloc, text) {
+        Ok(statement) => match prepare(alloc, schema, used, &statement) {
+            Ok(prepared) => print_outcome(out, &fill(alloc, &prepared, values, None)),
+            Err(error) => print_outcome(out, &Err(error)),
+        },
+        Err(_) => print_unparsed(out),
+    }
+}
+
 /// The plan of a statement, with `ks` in use where it begins with a space.
 fn outcome(alloc: Global, schema: &Schema, text: &str, words: &str) -> Result<String, Fail> {
     let used = if text.starts_with(' ') {
@@ -288,9 +316,15 @@ fn outcome(alloc: Global, schema: &Schema, text: &str, words: &str) -> Result<St
     } else {
         None
     };
-    let values = params(alloc, words)?;
     let mut out = String::new(alloc);
-    print_bound(&mut out, alloc, schema, used, text, &values, None)?;
+    if words.contains('|') {
+        let lists = lists(alloc, words)?;
+        let values = Values::Each(lists.as_slice());
+        print_filled(&mut out, alloc, schema, used, text, values)?;
+    } else {
+        let values = params(alloc, words)?;
+        print_bound(&mut out, alloc, schema, used, text, &values, None)?;
+    }
     Ok(out)
 }
 
@@ -480,6 +514,44 @@ BEGIN BATCH USING TIMESTAMP null INSERT INTO ks.t (k) VALUES (1) APPLY BATCH => 
 #[test]
 fn batches_are_one_mutation(rt: HostRuntime) -> Result<(), Fail> {
     assert_eq!(rt; wrong(rt.alloc(), BATCHES)?.as_str(), "");
+    Ok(())
+}
+
+/// Each statement of a batch has a list of values: one too many, one too few, a list too many and a list too few.
+const LISTS: &str =
+    "BEGIN BATCH UPDATE ks.t SET v = ? WHERE k = ? AND c = 1; DELETE FROM ks.t WHERE k = 1 AND c = ?; APPLY BATCH ## 'x #1 | #2 => 1:00000001 cell 80000001.2[78] row 80000002[null]
+BEGIN BATCH UPDATE ks.t SET v = ? WHERE k = ? AND c = 1; DELETE FROM ks.t WHERE k = 1 AND c = ?; APPLY BATCH ## 'x | #1 #2 => ValueCount
+BEGIN BATCH UPDATE ks.t SET v = ? WHERE k = ? AND c = 1; DELETE FROM ks.t WHERE k = 1 AND c = ?; APPLY BATCH ## 'x #1 #2 | #2 => ValueCount
+BEGIN BATCH UPDATE ks.t SET v = ? WHERE k = ? AND c = 1; DELETE FROM ks.t WHERE k = 1 AND c = ?; APPLY BATCH ## 'x #1 | #2 #3 => ValueCount
+BEGIN BATCH UPDATE ks.t SET v = ? WHERE k = ? AND c = 1; DELETE FROM ks.t WHERE k = 1 AND c = ?; APPLY BATCH ## 'x #1 | => ValueCount
+BEGIN BATCH UPDATE ks.t SET v = ? WHERE k = ? AND c = 1; APPLY BATCH ## 'x #1 | #2 => ValueCount
+BEGIN BATCH UPDATE ks.t SET v = :v WHERE k = :k AND c = 1; DELETE FROM ks.t WHERE k = 1 AND c = ?; APPLY BATCH ## v='x k=#1 | c=#2 => 1:00000001 cell 80000001.2[78] row 80000002[null]
+BEGIN BATCH USING TIMESTAMP ? UPDATE ks.t SET v = 'x' WHERE k = 1 AND c = 1; DELETE FROM ks.t WHERE k = 1 AND c = 2; APPLY BATCH ## ##9 | => ValueCount
+UPDATE ks.t SET v = ? WHERE k = 1 AND c = 1 ## 'x | 'y => ValueCount";
+
+#[test]
+fn statements_of_a_batch_have_their_own_values(rt: HostRuntime) -> Result<(), Fail> {
+    assert_eq!(rt; wrong(rt.alloc(), LISTS)?.as_str(), "");
+    Ok(())
+}
+
+/// What is refused whatever the values are, with other values than those that are refused for themselves.
+const PREPARED: &str = "UPDATE ks.t SET v = ? WHERE k = 1 AND c = 'x' ## | => TypeMismatch
+INSERT INTO ks.t (k, c) VALUES (?, null) ## | => NullKey
+INSERT INTO ks.t (k, c, v) VALUES (?, ?) ## | => ValueCount
+INSERT INTO ks.t (k, c) VALUES (?, ?, ?) ## | => ValueCount
+SELECT * FROM ks.t WHERE k = ? LIMIT 0 ## | => TypeMismatch
+SELECT z FROM ks.t WHERE k = ? ## | => UnknownColumn
+SELECT * FROM ks.nope WHERE k = ? ## | => UnknownTable
+DELETE FROM ks.t WHERE c = ? ## | => KeyMissing
+BEGIN BATCH APPLY BATCH ## | => NotSupported(Batch)
+BEGIN BATCH INSERT INTO ks.t (k, c) VALUES (?, ?) IF NOT EXISTS APPLY BATCH ## | => NotSupported(Condition)
+CREATE TABLE ks.x (k int PRIMARY KEY) ## | => NotSupported(Create)
+USE nope ## | => UnknownKeyspace";
+
+#[test]
+fn refusals_that_need_no_value_come_with_prepare(rt: HostRuntime) -> Result<(), Fail> {
+    assert_eq!(rt; wrong(rt.alloc(), PREPARED)?.as_str(), "");
     Ok(())
 }
 

@@ -1,15 +1,14 @@
 //! Relations on keys: what is wrong with them, and the rows that they name, as bytes.
 
-use changes::Bound;
+use changes::{Bound, Partition};
 use cql_statement::RelationOperator;
 use cql_values::{CqlType, CqlValue};
 use cs_base::{Bytes, Items, Text};
 use key_restrictions::{
-    Restriction, Restrictions, RowRange, filters, has_null, is_key_at, is_twice, is_whole,
-    misses_slice, misses_whole, names_rows, row_range,
+    Restriction, Restrictions, RowBounds, is_key_at, is_long, is_twice, is_whole, misses_slice,
+    misses_whole, names_rows, partition_of, row_bounds, row_bytes,
 };
 use schema_book::{ColumnDef, ColumnKind};
-use statement_values::Supplied;
 use std::alloc::{AllocError, Global};
 use std::test::Fail;
 
@@ -41,20 +40,18 @@ fn blob(alloc: Global, length: &str) -> Result<CqlValue, AllocError> {
     Ok(CqlValue::Blob(Bytes::from_vec(vec![in alloc; 7; length]?)))
 }
 
-/// A number, `null`, `unset`, `uuid`, `#` and the length of a blob, or else a text.
-fn supplied(alloc: Global, word: &str) -> Result<Supplied, AllocError> {
+/// A number, `uuid`, `#` and the length of a blob, or else a text.
+fn value(alloc: Global, word: &str) -> Result<CqlValue, AllocError> {
     if let Ok(n) = word.parse::<i32>() {
-        return Ok(Supplied::Value(CqlValue::Int(n)));
+        return Ok(CqlValue::Int(n));
     }
     if let Some(length) = word.strip_prefix('#') {
-        return Ok(Supplied::Value(blob(alloc, length)?));
+        return blob(alloc, length);
     }
-    Ok(match word {
-        "null" => Supplied::Null,
-        "unset" => Supplied::NotSet,
-        "uuid" => Supplied::Value(CqlValue::Uuid(1)),
-        _ => Supplied::Value(CqlValue::Text(Text::from_str(alloc, word)?)),
-    })
+    match word {
+        "uuid" => Ok(CqlValue::Uuid(1)),
+        _ => Ok(CqlValue::Text(Text::from_str(alloc, word)?)),
+    }
 }
 
 /// The operator in front, and the rest.
@@ -83,12 +80,12 @@ fn placed(word: &str) -> (usize, &str) {
 }
 
 /// Relations such as `0=7` and `1>=2`.
-fn restrictions(alloc: Global, words: &str) -> Result<Restrictions, AllocError> {
+fn restrictions(alloc: Global, words: &str) -> Result<Restrictions<CqlValue>, AllocError> {
     let mut restrictions = Items::new(alloc);
     for word in words.split_whitespace() {
         let (column, rest) = placed(word);
-        let (operator, value) = compared(rest);
-        let value = supplied(alloc, value)?;
+        let (operator, word) = compared(rest);
+        let value = value(alloc, word)?;
         restrictions.push(Restriction {
             column,
             operator,
@@ -104,8 +101,6 @@ struct Verdict {
     misses_whole: bool,
     misses_slice: bool,
     is_twice: bool,
-    has_null: bool,
-    filters: bool,
     names_rows: bool,
 }
 
@@ -114,8 +109,6 @@ const ROW: Verdict = Verdict {
     misses_whole: false,
     misses_slice: false,
     is_twice: false,
-    has_null: false,
-    filters: false,
     names_rows: true,
 };
 
@@ -140,8 +133,6 @@ fn checked(alloc: Global, letters: &str, words: &str) -> Result<Verdict, AllocEr
         misses_whole: misses_whole(columns, restrictions),
         misses_slice: misses_slice(columns, restrictions),
         is_twice: is_twice(columns, restrictions),
-        has_null: has_null(columns, restrictions),
-        filters: filters(columns, restrictions),
         names_rows: names_rows(columns, restrictions),
     })
 }
@@ -220,35 +211,6 @@ fn columns_that_stand_twice_are_found(rt: HostRuntime) -> Result<(), Fail> {
 }
 
 #[test]
-fn nulls_and_other_columns_are_found(rt: HostRuntime) -> Result<(), Fail> {
-    let null = Verdict {
-        has_null: true,
-        ..ROW
-    };
-    let filter = Verdict {
-        filters: true,
-        ..ROW
-    };
-    let rows = [
-        ("pcv", "0=null 1=1", null),
-        ("pcv", "0=1 1=unset", null),
-        ("pcv", "0=1 1=1 2=1", filter),
-        ("pcv", "0=1 1=1 2>1", filter),
-        ("pcv", "0=1 1=1 2=null", filter),
-        ("pcv", "2=1 1=1 2=1 0=1", filter),
-        ("pcv", "0=1 1=1 3=1", filter),
-    ];
-    for (letters, words, want) in rows {
-        assert_eq!(rt;
-            checked(rt.alloc(), letters, words)?,
-            want,
-            "{letters} {words}"
-        );
-    }
-    Ok(())
-}
-
-#[test]
 fn whole_keys_are_found(rt: HostRuntime) -> Result<(), Fail> {
     let alloc = rt.alloc();
     let columns = columns(alloc, "pcv")?;
@@ -261,20 +223,32 @@ fn whole_keys_are_found(rt: HostRuntime) -> Result<(), Fail> {
     Ok(())
 }
 
-fn range(alloc: Global, letters: &str, words: &str) -> Result<RowRange, AllocError> {
+fn partition(alloc: Global, letters: &str, words: &str) -> Result<Partition, AllocError> {
     let columns = columns(alloc, letters)?;
     let restrictions = restrictions(alloc, words)?;
-    row_range(alloc, 5, columns.as_slice(), restrictions.as_slice())
+    partition_of(alloc, 5, columns.as_slice(), restrictions.as_slice())
+}
+
+fn row(alloc: Global, letters: &str, words: &str) -> Result<Bytes, AllocError> {
+    let columns = columns(alloc, letters)?;
+    let restrictions = restrictions(alloc, words)?;
+    row_bytes(alloc, columns.as_slice(), restrictions.as_slice())
+}
+
+fn bounds(alloc: Global, letters: &str, words: &str) -> Result<RowBounds, AllocError> {
+    let columns = columns(alloc, letters)?;
+    let restrictions = restrictions(alloc, words)?;
+    row_bounds(alloc, columns.as_slice(), restrictions.as_slice())
 }
 
 #[test]
 fn keys_are_bytes_of_their_columns(rt: HostRuntime) -> Result<(), Fail> {
     // Keys and tokens of the DataStax Python driver for Apache Cassandra.
-    let one = range(rt.alloc(), "pc", "1=9 0=1")?.partition;
+    let one = partition(rt.alloc(), "pc", "1=9 0=1")?;
     assert_eq!(rt; one.table, 5);
     assert_eq!(rt; one.key.as_slice(), [0, 0, 0, 1].as_slice());
     assert_eq!(rt; one.token, -4_069_959_284_402_364_209);
-    let two = range(rt.alloc(), "pp", "1=a 0=1")?.partition;
+    let two = partition(rt.alloc(), "pp", "1=a 0=1")?;
     assert_eq!(rt;
         two.key.as_slice(),
         [0, 4, 0, 0, 0, 1, 0, 0, 1, b'a', 0].as_slice()
@@ -285,8 +259,8 @@ fn keys_are_bytes_of_their_columns(rt: HostRuntime) -> Result<(), Fail> {
 
 #[test]
 fn lengths_have_two_bytes(rt: HostRuntime) -> Result<(), Fail> {
-    let range = range(rt.alloc(), "ppp", "2=-1 0=#258 1=")?;
-    let key = range.partition.key.as_slice();
+    let partition = partition(rt.alloc(), "ppp", "2=-1 0=#258 1=")?;
+    let key = partition.key.as_slice();
     assert_eq!(rt; key.len(), 2 + 258 + 1 + 2 + 1 + 2 + 4 + 1);
     assert_eq!(rt; &key[..3], [1, 2, 7].as_slice());
     assert_eq!(rt;
@@ -352,10 +326,11 @@ fn bounds_are_ends(rt: HostRuntime) -> Result<(), Fail> {
         ),
     ];
     for (letters, words, from, upto) in rows {
-        let range = range(rt.alloc(), letters, words)?;
-        assert!(rt; is_end(&range.from, from), "{letters} {words}");
-        assert!(rt; is_end(&range.upto, upto), "{letters} {words}");
-        assert!(rt; range.row.as_slice().is_empty());
+        let bounds = bounds(rt.alloc(), letters, words)?;
+        assert!(rt; is_end(&bounds.from, from), "{letters} {words}");
+        assert!(rt; is_end(&bounds.upto, upto), "{letters} {words}");
+        let row = row(rt.alloc(), letters, words)?;
+        assert!(rt; row.as_slice().is_empty());
     }
     Ok(())
 }
@@ -409,10 +384,11 @@ fn fixed_columns_stand_before_bounds(rt: HostRuntime) -> Result<(), Fail> {
         ),
     ];
     for (letters, words, fixed, from, upto) in rows {
-        let range = range(rt.alloc(), letters, words)?;
-        assert!(rt; range.row.as_slice() == fixed, "{letters} {words}");
-        assert!(rt; is_end(&range.from, from), "{letters} {words}");
-        assert!(rt; is_end(&range.upto, upto), "{letters} {words}");
+        let bounds = bounds(rt.alloc(), letters, words)?;
+        let row = row(rt.alloc(), letters, words)?;
+        assert!(rt; row.as_slice() == fixed, "{letters} {words}");
+        assert!(rt; is_end(&bounds.from, from), "{letters} {words}");
+        assert!(rt; is_end(&bounds.upto, upto), "{letters} {words}");
     }
     Ok(())
 }
@@ -433,28 +409,12 @@ fn keys_and_rows_have_65535_bytes(rt: HostRuntime) -> Result<(), Fail> {
         ("pd", "0=1 1<#65534", true),
     ];
     for (letters, words, want) in rows {
-        assert_eq!(rt;
-            range(rt.alloc(), letters, words)?.is_long(),
-            want,
-            "{letters} {words}"
-        );
-    }
-    Ok(())
-}
-
-#[test]
-fn empty_keys_are_found(rt: HostRuntime) -> Result<(), Fail> {
-    let rows = [
-        ("p", "0=", true),
-        ("p", "0=a", false),
-        ("pp", "0= 1=", false),
-    ];
-    for (letters, words, want) in rows {
-        assert_eq!(rt;
-            range(rt.alloc(), letters, words)?.is_empty(),
-            want,
-            "{letters} {words}"
-        );
+        let partition = partition(rt.alloc(), letters, words)?;
+        let bounds = bounds(rt.alloc(), letters, words)?;
+        let long = is_long(partition.key.as_slice())
+            || is_long(bounds.from.at.as_slice())
+            || is_long(bounds.upto.at.as_slice());
+        assert_eq!(rt; long, want, "{letters} {words}");
     }
     Ok(())
 }

@@ -1,125 +1,64 @@
-//! Values by place and by name, and those that are none of their type.
+//! Values by place and by name.
 
-use cql_statement::Term;
-use cql_values::{CqlType, CqlValue, Literal, LiteralKind};
-use cs_base::{Bytes, Items, Text};
-use statement_values::{Param, Params, Supplied, Supplier};
+use cs_base::{Bytes, Items};
+use statement_values::{Param, Params, Supplier};
 use std::alloc::{AllocError, Global};
 use std::collections::BTreeMap;
 use std::test::Fail;
 
-/// What was supplied: an int, or how none was.
+/// What was given: one byte, or how none was.
 #[derive(Clone, Copy, Debug, PartialEq, Eq)]
 enum Seen {
     Missing,
-    Mismatched,
     Null,
     NotSet,
-    Int(i32),
-    Other,
+    Byte(u8),
 }
 
-fn outcome(supplied: &Supplied) -> Seen {
-    match supplied {
-        Supplied::Missing => Seen::Missing,
-        Supplied::Mismatched => Seen::Mismatched,
-        Supplied::Null => Seen::Null,
-        Supplied::NotSet => Seen::NotSet,
-        Supplied::Value(CqlValue::Int(number)) => Seen::Int(*number),
-        Supplied::Value(_) => Seen::Other,
+fn outcome(param: Option<&Param>) -> Seen {
+    match param {
+        None => Seen::Missing,
+        Some(Param::Null) => Seen::Null,
+        Some(Param::NotSet) => Seen::NotSet,
+        Some(Param::Given(bytes)) => Seen::Byte(bytes.as_slice().first().copied().unwrap_or(0)),
     }
 }
 
-fn constant(alloc: Global, kind: LiteralKind, text: &str) -> Result<Term, AllocError> {
-    Ok(Term::Constant(Literal {
-        kind,
-        text: Text::from_str(alloc, text)?,
-    }))
-}
-
-fn int(alloc: Global, number: i32) -> Result<Param, AllocError> {
-    Ok(Param::Given(Bytes::from_slice(alloc, &number.to_be_bytes())?))
-}
-
-fn take(alloc: Global, supplier: &mut Supplier, term: &Term) -> Result<Seen, AllocError> {
-    Ok(outcome(&supplier.supply(alloc, "c", CqlType::Int, term)?))
-}
-
-#[test]
-fn constants_are_read_by_their_type(rt: HostRuntime) -> Result<(), Fail> {
-    let alloc = rt.alloc();
-    let params = Params::ByPlace(Items::new(alloc));
-    let mut supplier = Supplier::new(&params);
-    let number = constant(alloc, LiteralKind::Whole, "-7")?;
-    assert_eq!(rt; take(alloc, &mut supplier, &number)?, Seen::Int(-7));
-    let text = constant(alloc, LiteralKind::Str, "'7'")?;
-    assert_eq!(rt; take(alloc, &mut supplier, &text)?, Seen::Mismatched);
-    let large = constant(alloc, LiteralKind::Whole, "2147483648")?;
-    assert_eq!(rt; take(alloc, &mut supplier, &large)?, Seen::Mismatched);
-    assert_eq!(rt; take(alloc, &mut supplier, &Term::Null)?, Seen::Null);
-    assert!(rt; !supplier.has_left());
-    Ok(())
-}
-
-fn by_place(alloc: Global) -> Result<Params, AllocError> {
-    let mut values = Items::new(alloc);
-    values.push(int(alloc, 1)?)?;
-    values.push(Param::Null)?;
-    values.push(Param::NotSet)?;
-    values.push(Param::Given(Bytes::from_slice(alloc, &[1, 2])?))?;
-    Ok(Params::ByPlace(values))
+fn byte(alloc: Global, byte: u8) -> Result<Param, AllocError> {
+    Ok(Param::Given(Bytes::from_slice(alloc, &[byte])?))
 }
 
 #[test]
 fn markers_take_the_values_in_their_order(rt: HostRuntime) -> Result<(), Fail> {
     let alloc = rt.alloc();
-    let params = by_place(alloc)?;
+    let mut values = Items::new(alloc);
+    values.push(byte(alloc, 1)?)?;
+    values.push(Param::Null)?;
+    values.push(Param::NotSet)?;
+    let params = Params::ByPlace(values);
     let mut supplier = Supplier::new(&params);
-    let named = Term::NamedMarker(Text::from_str(alloc, "n")?);
-    assert_eq!(rt; take(alloc, &mut supplier, &Term::Marker)?, Seen::Int(1));
-    assert_eq!(rt; take(alloc, &mut supplier, &Term::Null)?, Seen::Null);
-    assert_eq!(rt; take(alloc, &mut supplier, &named)?, Seen::Null);
-    assert_eq!(rt; take(alloc, &mut supplier, &Term::Marker)?, Seen::NotSet);
+    assert_eq!(rt; outcome(supplier.take("a")), Seen::Byte(1));
+    assert_eq!(rt; outcome(supplier.take("a")), Seen::Null);
     assert!(rt; supplier.has_left());
-    assert_eq!(rt;
-        take(alloc, &mut supplier, &Term::Marker)?,
-        Seen::Mismatched
-    );
+    assert_eq!(rt; outcome(supplier.take("b")), Seen::NotSet);
     assert!(rt; !supplier.has_left());
-    assert_eq!(rt; take(alloc, &mut supplier, &Term::Marker)?, Seen::Missing);
+    assert_eq!(rt; outcome(supplier.take("a")), Seen::Missing);
+    assert_eq!(rt; outcome(Supplier::empty().take("a")), Seen::Missing);
     Ok(())
-}
-
-fn by_name(alloc: Global) -> Result<Params, AllocError> {
-    let mut values = BTreeMap::new(alloc);
-    values.insert(String::from_str(alloc, "n")?, int(alloc, 5)?)?;
-    values.insert(String::from_str(alloc, "c")?, int(alloc, 6)?)?;
-    Ok(Params::ByName(values))
 }
 
 #[test]
 fn markers_take_the_values_of_their_names(rt: HostRuntime) -> Result<(), Fail> {
     let alloc = rt.alloc();
-    let params = by_name(alloc)?;
+    let mut values = BTreeMap::new(alloc);
+    values.insert(String::from_str(alloc, "n")?, byte(alloc, 5)?)?;
+    values.insert(String::from_str(alloc, "c")?, byte(alloc, 6)?)?;
+    let params = Params::ByName(values);
     let mut supplier = Supplier::new(&params);
-    let named = Term::NamedMarker(Text::from_str(alloc, "n")?);
-    let other = Term::NamedMarker(Text::from_str(alloc, "m")?);
-    assert_eq!(rt; take(alloc, &mut supplier, &named)?, Seen::Int(5));
-    assert_eq!(rt; take(alloc, &mut supplier, &named)?, Seen::Int(5));
-    assert_eq!(rt; take(alloc, &mut supplier, &Term::Marker)?, Seen::Int(6));
-    assert_eq!(rt; take(alloc, &mut supplier, &other)?, Seen::Missing);
+    assert_eq!(rt; outcome(supplier.take("n")), Seen::Byte(5));
+    assert_eq!(rt; outcome(supplier.take("n")), Seen::Byte(5));
+    assert_eq!(rt; outcome(supplier.take("c")), Seen::Byte(6));
+    assert_eq!(rt; outcome(supplier.take("m")), Seen::Missing);
     assert!(rt; !supplier.has_left());
-    Ok(())
-}
-
-#[test]
-fn boolean_of_any_byte_is_read(rt: HostRuntime) -> Result<(), Fail> {
-    let alloc = rt.alloc();
-    let mut values = Items::new(alloc);
-    values.push(Param::Given(Bytes::from_slice(alloc, &[5])?))?;
-    let params = Params::ByPlace(values);
-    let mut supplier = Supplier::new(&params);
-    let supplied = supplier.supply(alloc, "c", CqlType::Boolean, &Term::Marker)?;
-    assert!(rt; matches!(supplied, Supplied::Value(CqlValue::Boolean(true))));
     Ok(())
 }
