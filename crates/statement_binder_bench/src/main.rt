@@ -8,6 +8,7 @@
 use cql_parser::parse;
 use cql_statement::Statements;
 use cs_base::{Bytes, Items};
+use prepared_statement::Prepared;
 use schema_book::Schema;
 use statement_binder::{Values, fill, prepare};
 use statement_plan::Plan;
@@ -74,18 +75,31 @@ fn values(alloc: Global) -> Option<Params> {
     Some(Params::ByPlace(values))
 }
 
-/// Fills the statement so often. Nothing where it is refused or memory runs out.
-fn fill_all(alloc: Global, rounds: u32) -> Option<Tally> {
+fn prepared(alloc: Global) -> Option<Prepared> {
     let schema = schema(alloc)?;
     let statement = parse(alloc, INSERT).ok()?;
-    let prepared = prepare(alloc, &schema, None, &statement).ok()?;
-    let values = values(alloc)?;
+    prepare(alloc, &schema, None, &statement).ok()
+}
+
+/// Fills the statement so often. Nothing where it is refused or memory runs out.
+fn fill_so_often(
+    alloc: Global,
+    prepared: &Prepared,
+    values: &Params,
+    rounds: u32,
+) -> Option<Tally> {
     let mut tally = Tally { changes: 0, mix: 0 };
     for _ in 0..rounds {
-        let plan = fill(alloc, &prepared, Values::Whole(&values), None).ok()?;
+        let plan = fill(alloc, prepared, Values::Whole(values), None).ok()?;
         tally.add(&plan);
     }
     Some(tally)
+}
+
+fn fill_all(alloc: Global, rounds: u32) -> Option<Tally> {
+    let prepared = prepared(alloc)?;
+    let values = values(alloc)?;
+    fill_so_often(alloc, &prepared, &values, rounds)
 }
 
 fn print_tally(rt: &impl Print, tally: Option<Tally>) -> io::Result<()> {
