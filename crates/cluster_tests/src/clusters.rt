@@ -1,39 +1,26 @@
 //! Three nodes, each a replica, and what their network does with messages.
 
-ghost use Rattle.std.specs.Prelude.{◌≡◌, IfOk, length};
-
 use crate::plans::{read, write, write_bytes};
 use crate::site::{id, setting, store_of, store_with};
 use cluster_model::{Cluster, ClusterError, ClusterEvent};
 use cs_base::Level;
 use cs_store::MemStore;
 use list_replica::MemListReplica;
-use peer_messages::{Ask, Entry, Invalid, Plan, Refusal, Setting};
-use std::alloc::{AllocError, Global};
+use peer_messages::{Ask, Entry, Invalid, Plan, Refusal};
+use std::alloc::Global;
 use std::mem;
 use std::test::Fail;
 
 /// A cluster as these tests step it.
 type Tested = Cluster<MemListReplica>;
 
-/// So many formatted stores.
-fn stores(alloc: Global, nodes: u8) -> Result<Vec<MemStore>, AllocError>
-    ensures { IfOk result (λ stores. length stores.items ≡ nodes) }
-{
-    let mut stores = Vec::new(alloc);
-    for _ in 0..nodes {
-        stores.push(MemStore::formatted(alloc)?)?;
-    }
-    Ok(stores)
-}
-
-fn cluster_of(alloc: Global, setting: Setting) -> Result<Tested, Fail> {
-    let stores = stores(alloc, setting.ring.nodes())?;
-    Ok(Cluster::new(alloc, setting, stores)?)
-}
-
 fn cluster_of_three(alloc: Global) -> Result<Tested, Fail> {
-    cluster_of(alloc, setting(alloc, &[-3, 0, 3], 3)?)
+    let stores = vec![in alloc;
+        MemStore::formatted(alloc)?,
+        MemStore::formatted(alloc)?,
+        MemStore::formatted(alloc)?,
+    ]?;
+    Ok(Cluster::new(alloc, setting(alloc, &[-3, 0, 3], 3)?, stores)?)
 }
 
 /// A client of the node asks this at QUORUM.

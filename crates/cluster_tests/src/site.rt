@@ -32,7 +32,9 @@ impl<R: MemReplica> Model for Site<R> {
     ghost invariant = { λ a. a.node.core.runs ≡ true → R.is_whole a.node.replica × IsKeptOf (R.durable a.node.replica) a.node.core.kept };
 }
 
-pub(crate) fn setting(alloc: Global, tokens: &[i64], factor: u8) -> Result<Setting, Fail> {
+pub(crate) fn setting(alloc: Global, tokens: &[i64], factor: u8) -> Result<Setting, Fail>
+    ensures { IfOk result (λ setting. setting.ring ≡ tokens.now) }
+{
     let mut tables = Items::new(alloc);
     tables.push(TableSetting { factor })?;
     Ok(Setting {
