@@ -1,12 +1,11 @@
 -- What is refused before the values are known is refused with all values.
-use Rattle.std.proofs.Common.{◌≡◌, ◌⊎◌, ℕ, ℤ, inl, inr, Bool, true, false, cond, not, ◌&&◌, List, [], ◌∷◌, ◌++◌, Option, Some, None, fold, map, refl, sym, append_assoc, append-nil}
+use Rattle.std.proofs.Common.{ℕ, ℤ, inl, inr, Bool, true, false, cond, not, ◌&&◌, List, [], ◌∷◌, ◌++◌, Option, None, fold, map, refl, sym, append_assoc, append-nil}
 use Rattle.std.specs.Prelude.{is_some}
 use Rattle.std.proofs.lemmas.Bool.{false≢true}
 use Rattle.cql_statement.specs.declared.modification.Batch.{Batch}
 use Rattle.cql_statement.specs.declared.modification.Modification.{Modification}
 use Rattle.cql_statement.specs.declared.modification.Modification.TheVariants as modifications
 use Rattle.cql_statement.specs.declared.select.Select.{Select}
-use Rattle.cql_statement.specs.declared.statement.Statement.{Statement}
 use Rattle.cql_statement.specs.declared.statement.Statement.TheVariants as statement
 use Rattle.cql_values.specs.declared.value.CqlType.{CqlType}
 use Rattle.schema_book.specs.Books.{Book, keyspace_at}
@@ -31,8 +30,8 @@ use Rattle.prepared_statement.specs.declared.slot.Stands.TheVariants.{Own, Misma
 use Rattle.statement_binder.specs.Changes.{timestamp_or}
 use Rattle.statement_binder.specs.Filled.{given_to, behind}
 use Rattle.statement_binder.specs.Laws.{LastingRefusalsHold, PreparingTellsLowest}
-use Rattle.statement_binder.specs.Plans.{behind_all, is_scattered, pieces_of}
-use Rattle.statement_binder.specs.Refusals.{Holds, Refusal, refused_if, slot_refusals, slots_refusals, own_excess_refusals, next_refusals, rest_refusals, form_refusals, row_refusals, change_refusals, alone_refusals, select_form_refusals, rows_refusals, read_refusals, condition_refusals, entry_refusals, entries_refusals, scatter_refusals, entries_batch_refusals, batch_refusals, idle_refusals, own_slot_refusals, own_slots_refusals, lasting_change_refusals, lasting_entry_refusals, lasting_entries_refusals, is_empty_batch, lasting_batch_refusals}
+use Rattle.statement_binder.specs.Plans.{behind_all, pieces_of}
+use Rattle.statement_binder.specs.Refusals.{Holds, Refusal, refused_if, slot_refusals, slots_refusals, own_excess_refusals, next_refusals, rest_refusals, form_refusals, row_refusals, change_refusals, alone_refusals, select_form_refusals, rows_refusals, read_refusals, condition_refusals, entry_refusals, entries_refusals, scatter_refusals, batch_refusals, idle_refusals, own_slot_refusals, own_slots_refusals, lasting_change_refusals, lasting_entry_refusals, lasting_entries_refusals, is_empty_batch, lasting_batch_refusals}
 use Rattle.statement_binder.specs.Supplies.{Left, next_params, next_filled, behind_next, front_params, front_filled, behind_front}
 use Rattle.statement_binder.proofs.Lowest.{holds_append, holds_split, Tells, tells_none, tells_if, tells_both, tells_of}
 use Rattle.statement_binder.proofs.RefusalLaws.{slot_told, form_told, select_form_told, condition_told, there_told}

@@ -9,7 +9,6 @@ use Rattle.cql_statement.specs.declared.modification.Modification.{Modification}
 use Rattle.cql_statement.specs.declared.modification.Modification.TheVariants as modifications
 use Rattle.cql_statement.specs.declared.schema.ColumnOrder.{ColumnOrder}
 use Rattle.cql_statement.specs.declared.select.Select.{Select}
-use Rattle.cql_statement.specs.declared.statement.Statement.{Statement}
 use Rattle.cql_statement.specs.declared.statement.Statement.TheVariants as statement
 use Rattle.cql_statement.specs.declared.term.RelationOperator.{RelationOperator}
 use Rattle.cql_statement.specs.declared.term.TestOperator.{TestOperator}
@@ -19,12 +18,10 @@ use Rattle.key_restrictions.specs.Checks.{misses_slice, is_twice}
 use Rattle.key_restrictions.specs.Rows.{partition_of, bounds_of, is_long as is_long_key}
 use Rattle.key_restrictions.specs.declared.restriction.Restriction.{Restriction}
 use Rattle.key_restrictions.specs.declared.rows.RowBounds.{RowBounds}
-use Rattle.mutation_drafts.specs.Kept.{IsKept}
 use Rattle.mutation_drafts.specs.Counted.{is_long_mutation}
 use Rattle.mutation_drafts.specs.Laws.{KeptAreOne}
 use Rattle.schema_book.specs.Books.{Book, keyspace_at}
 use Rattle.schema_book.specs.declared.table.ColumnDef.{ColumnDef}
-use Rattle.schema_book.specs.declared.table.Keyspace.{Keyspace}
 use Rattle.schema_book.specs.declared.table.Table.{Table}
 use Rattle.statement_plan.specs.Faults.{lower, number_of}
 use Rattle.statement_plan.specs.declared.fault.Fault.{Fault}
@@ -39,9 +36,9 @@ use Rattle.statement_values.specs.declared.params.Params.{Params}
 use Rattle.prepared_statement.specs.Faults.{mismatches, misses, is_null_key, is_long, slot_fault, value_at}
 use Rattle.prepared_statement.specs.Names.{table_named}
 use Rattle.prepared_statement.specs.Orders.{has_bad_order}
-use Rattle.prepared_statement.specs.Prepared.{columns_in, table_fault, change_in, change_of, read_in, condition_fault, outline_of, use_in}
+use Rattle.prepared_statement.specs.Prepared.{columns_in, table_fault, change_in, change_of, read_in, condition_fault, outline_of}
 use Rattle.prepared_statement.specs.Slots.{slots_of, select_slots, stamp_slots}
-use Rattle.prepared_statement.specs.Structure.{keys_of, table_of_modification, names_unknown, misses_key, fixes_twice, is_timed_condition, deletes_key, filters, tests_key, guard_of, is_conditional, change_fault, feature_of, unsupported, selects_unknown, select_fault, select_feature, shown_places}
+use Rattle.prepared_statement.specs.Structure.{keys_of, table_of_modification, names_unknown, misses_key, fixes_twice, is_timed_condition, deletes_key, filters, tests_key, guard_of, is_conditional, change_fault, unsupported, selects_unknown, select_fault, shown_places}
 use Rattle.prepared_statement.specs.declared.change.Change.{Change}
 use Rattle.prepared_statement.specs.declared.change.Guard.{Guard}
 use Rattle.prepared_statement.specs.declared.change.Read.{Read}
@@ -53,7 +50,7 @@ use Rattle.statement_binder.specs.Filled.{value_in, written, with_key, with_cell
 use Rattle.statement_binder.specs.Laws.{LowestIsTold, TellsLowest}
 use Rattle.statement_binder.specs.Meanings.{Answers, IsPlanOf, IsLongPlan, IsTooLong}
 use Rattle.statement_binder.specs.Plans.{refused_or, partition_by, own_fault, piece_of, operation_of, operation_plan, write_plan, mutation_of, read_size_fault, query_of, batch_piece, pieces_of, lower_piece, pieces_fault, is_scattered, scatter_fault, gathered, drafts_of, behind_all, idle_fault, refused_before, change_plan, read_plan, plan_of}
-use Rattle.statement_binder.specs.Refusals.{IsLowest, Holds, Refusal, refused_if, slot_refusals, slots_refusals, excess_refusals, own_excess_refusals, next_refusals, rest_refusals, table_refusals, structure_refusals, form_refusals, size_refusals, row_refusals, change_refusals, alone_refusals, select_structure_refusals, select_form_refusals, bounds_refusals, rows_refusals, read_refusals, condition_refusals, entry_refusals, entries_refusals, scatter_refusals, entries_batch_refusals, idle_refusals, IsLongChange, IsLongBatch, IsRefusedFor}
+use Rattle.statement_binder.specs.Refusals.{IsLowest, Holds, Refusal, refused_if, slot_refusals, slots_refusals, excess_refusals, own_excess_refusals, next_refusals, rest_refusals, table_refusals, structure_refusals, form_refusals, size_refusals, row_refusals, change_refusals, alone_refusals, select_structure_refusals, select_form_refusals, bounds_refusals, read_refusals, condition_refusals, entry_refusals, entries_refusals, scatter_refusals, entries_batch_refusals, idle_refusals, IsLongChange, IsLongBatch, IsRefusedFor}
 use Rattle.statement_binder.specs.Supplies.{Left, whole, each, excess, next_params, own_excess, next_filled, behind_next, front_params, front_filled, behind_front, rest_excess}
 use Rattle.statement_binder.specs.declared.error.BindError.{BindError}
 use Rattle.statement_binder.specs.declared.error.BindError.TheVariants as error
