@@ -10,7 +10,7 @@ use cs_base::{Level, Micros, NodeId, ReqId};
 use cs_store::{MemStore, Outcome};
 use list_replica::MemListReplica;
 use node_core::{Lost, StepError};
-use peer_messages::{Ask, Entry, Message, Outputs, Plan, What};
+use peer_messages::{Ask, Entry, Message, Messages, Outputs, Plan, What};
 use std::alloc::{AllocError, Global};
 use std::test::Fail;
 
@@ -69,24 +69,65 @@ fn no_time_is_left(rt: HostRuntime) -> Result<(), Fail> {
     Ok(())
 }
 
-/// The message of a write that node 1 sends to node 0, sent and born at these times.
-fn message(alloc: Global, time: u64, born: u64) -> Result<Message, Fail> {
+fn message_to_first(messages: Messages) -> Option<Message> {
+    for message in messages.into_vec() {
+        if message.upto == NodeId::FIRST {
+            return Some(message);
+        }
+    }
+    None
+}
+
+/// What node 1 sends when a client asks for a write.
+fn sent(alloc: Global) -> Result<Messages, Fail> {
     let mut node = node_on(alloc, 1, MemStore::formatted(alloc)?)?;
     let plan = write(alloc, b"x", 5)?;
     let level = Level::One;
-    let Ok(outputs) = node.step(alloc, 0, What::Client(Ask { plan, level })) else {
-        return Err("no step".into());
-    };
-    for message in outputs.sends.into_vec() {
-        if message.upto == NodeId::FIRST {
-            return Ok(Message {
-                time: Micros::new(time),
-                born: Micros::new(born),
-                ..message
-            });
-        }
+    match node.step(alloc, 0, What::Client(Ask { plan, level })) {
+        Ok(outputs) => Ok(outputs.sends),
+        Err(_) => Err("no step".into()),
     }
-    Err("no message".into())
+}
+
+/// The message of a write that node 1 sends to node 0, sent and born at these times.
+fn message(alloc: Global, time: u64, born: u64) -> Result<Message, Fail> {
+    let mut message = message_to_first(sent(alloc)?).ok_or("no message")?;
+    message.time = Micros::new(time);
+    message.born = Micros::new(born);
+    Ok(message)
+}
+
+/// What a node answers to a message: its time then, and how many messages it sends.
+#[derive(Clone, Copy, PartialEq, Eq)]
+struct Heard {
+    is_refused: bool,
+    time: u64,
+    sends: usize,
+}
+
+fn hear(alloc: Global, node: &mut Tested, clock: u64, message: Message) -> Result<Heard, Fail> {
+    match node.step(alloc, clock, What::Deliver(message)) {
+        Ok(outputs) => Ok(Heard {
+            is_refused: outputs.refused,
+            time: outputs.time.count(),
+            sends: outputs.sends.as_slice().len(),
+        }),
+        Err(_) => Err("no step".into()),
+    }
+}
+
+/// Whether a message that was sent and born at these times is told as it should be, and its write applied just if it is taken.
+fn is_heard_as(
+    alloc: Global,
+    clock: u64,
+    sent: u64,
+    born: u64,
+    want: &Heard,
+) -> Result<bool, Fail> {
+    let mut node = node_on(alloc, 0, MemStore::formatted(alloc)?)?;
+    let told = hear(alloc, &mut node, clock, message(alloc, sent, born)?)?;
+    let shown = (!want.is_refused).then_some(b'x');
+    Ok(told == *want && asked(alloc, &mut node, read(alloc)?) == Told::Shown(shown))
 }
 
 // A message from more than a minute ahead of the node's time and its clock is refused, and its time is not taken; one that is
@@ -94,7 +135,7 @@ fn message(alloc: Global, time: u64, born: u64) -> Result<Message, Fail> {
 #[test]
 fn messages_are_refused(rt: HostRuntime) -> Result<(), Fail> {
     let alloc = rt.alloc();
-    for (clock, sent, born, refused, time) in [
+    for (clock, sent, born, is_refused, time) in [
         (0, 60_000_000, 1, false, 60_000_001),
         (0, 60_000_001, 1, true, 1),
         (7, 60_000_007, 1, false, 60_000_008),
@@ -105,22 +146,13 @@ fn messages_are_refused(rt: HostRuntime) -> Result<(), Fail> {
         (1_000_000_001, 1_000_000_000, 1, false, 1_000_000_001),
         (1_000_000_001, 1_000_000_001, 1, true, 1_000_000_002),
     ] {
-        let mut node = node_on(alloc, 0, MemStore::formatted(alloc)?)?;
-        let message = message(alloc, sent, born)?;
-        let Ok(outputs) = node.step(alloc, clock, What::Deliver(message)) else {
-            return Err("no step".into());
+        let want = Heard {
+            is_refused,
+            time,
+            sends: usize::from(!is_refused),
         };
-        assert_eq!(rt; outputs.refused, refused, "{clock} {sent}");
-        assert_eq!(rt; outputs.time.count(), time, "{clock} {sent}");
-        assert_eq!(rt;
-            outputs.sends.as_slice().is_empty(),
-            refused,
-            "{clock} {sent}"
-        );
-        let want = (!refused).then_some(b'x');
-        assert_eq!(rt;
-            asked(alloc, &mut node, read(alloc)?),
-            Told::Shown(want),
+        assert!(rt;
+            is_heard_as(alloc, clock, sent, born, &want)?,
             "{clock} {sent}"
         );
     }
@@ -147,6 +179,35 @@ fn is_dead(alloc: Global, node: &mut Tested, what: What) -> bool {
     }
 }
 
+/// Whether a write fails, and tells that it began, where a fault comes at this call.
+fn fails_at(
+    alloc: Global,
+    node: &mut Tested,
+    call: u32,
+    fails: bool,
+    outcome: Outcome,
+) -> Result<bool, AllocError>
+    requires { 1 ≤ call }
+{
+    node.let_come(call, fails, outcome);
+    let plan = write(alloc, b"x", 5)?;
+    let level = Level::One;
+    match node.step(alloc, 0, What::Client(Ask { plan, level })) {
+        Err(StepError::Failed(lost)) => Ok(is_begun(&lost)),
+        _ => Ok(false),
+    }
+}
+
+fn is_dead_to_a_client(alloc: Global, node: &mut Tested, plan: Plan) -> bool {
+    let level = Level::One;
+    is_dead(alloc, node, What::Client(Ask { plan, level }))
+}
+
+fn is_dead_to_a_message(alloc: Global, node: &mut Tested) -> Result<bool, Fail> {
+    let message = message(alloc, 1, 1)?;
+    Ok(is_dead(alloc, node, What::Deliver(message)))
+}
+
 /// Whether a write and all that comes after it fail where a fault comes at this call.
 fn dies(
     alloc: Global,
@@ -157,28 +218,44 @@ fn dies(
 ) -> Result<bool, Fail>
     requires { 1 ≤ call }
 {
-    node.let_come(call, fails, outcome);
-    let plan = write(alloc, b"x", 5)?;
-    let level = Level::One;
-    let Err(StepError::Failed(lost)) = node.step(alloc, 0, What::Client(Ask { plan, level })) else {
-        return Ok(false);
-    };
-    let again = Ask {
-        plan: write(alloc, b"y", 6)?,
-        level,
-    };
-    let read = Ask {
-        plan: read(alloc)?,
-        level,
-    };
     Ok(
-        is_begun(&lost)
-            && is_dead(alloc, node, What::Client(again))
-            && is_dead(alloc, node, What::Client(read))
-            && is_dead(alloc, node, What::Deliver(message(alloc, 1, 1)?))
+        fails_at(alloc, node, call, fails, outcome)?
+            && is_dead_to_a_client(alloc, node, write(alloc, b"y", 6)?)
+            && is_dead_to_a_client(alloc, node, read(alloc)?)
+            && is_dead_to_a_message(alloc, node)?
             && is_dead(alloc, node, What::Flush)
             && is_dead(alloc, node, What::Tick),
     )
+}
+
+/// What a node shows once it is loaded behind a fault at this call, and its time.
+fn after_a_fault(
+    alloc: Global,
+    call: u32,
+    fails: bool,
+    outcome: Outcome,
+) -> Result<(Told, u64), Fail>
+    requires { 1 ≤ call }
+{
+    let mut node = node_on(alloc, 0, MemStore::formatted(alloc)?)?;
+    if !dies(alloc, &mut node, call, fails, outcome)? {
+        return Err("the node goes on".into());
+    }
+    let mut node = node_on(alloc, 0, node.crashed(outcome))?;
+    let shown = asked(alloc, &mut node, read(alloc)?);
+    Ok((shown, node.time_at(alloc, 0)?))
+}
+
+/// Whether a write that failed at this call has to be there, and whether it may be.
+fn is_due(call: u32, fails: bool, outcome: Outcome) -> (bool, bool) {
+    match outcome {
+        Outcome::Kept => {
+            let is_written = call > 3 || (call == 3 && !fails);
+            (is_written, is_written)
+        }
+        Outcome::Lost => (false, false),
+        Outcome::Torn => (false, true),
+    }
 }
 
 // A commit has four calls; the third one writes what counts. Behind a load the cell and the ceiling are there, or neither.
@@ -188,21 +265,13 @@ fn a_node_that_failed_answers_nothing(rt: HostRuntime) -> Result<(), Fail> {
     for outcome in [Outcome::Kept, Outcome::Lost, Outcome::Torn] {
         for fails in [true, false] {
             for call in 1..=4 {
-                let mut node = node_on(alloc, 0, MemStore::formatted(alloc)?)?;
-                assert!(rt; dies(alloc, &mut node, call, fails, outcome)?, "{call}");
-                let mut node = node_on(alloc, 0, node.crashed(outcome))?;
-                let shown = asked(alloc, &mut node, read(alloc)?);
-                let time = node.time_at(alloc, 0)?;
-                match outcome {
-                    Outcome::Kept if call > 3 || (call == 3 && !fails) => {
-                        assert_eq!(rt; shown, Told::Shown(Some(b'x')));
-                    }
-                    Outcome::Kept | Outcome::Lost => assert_eq!(rt; shown, Told::Shown(None)),
-                    Outcome::Torn => {}
-                }
-                let kept = if time == 2 { None } else { Some(b'x') };
-                assert_eq!(rt; shown, Told::Shown(kept), "{call} {time}");
-                assert!(rt; time == 2 || time == 1_000_003, "{call} {time}");
+                let (shown, time) = after_a_fault(alloc, call, fails, outcome)?;
+                let is_there = shown == Told::Shown(Some(b'x'));
+                let (must, may) = is_due(call, fails, outcome);
+                assert!(rt; is_there || (!must && shown == Told::Shown(None)), "{call}");
+                assert!(rt; may || !is_there, "{call}");
+                let want = if is_there { 1_000_003 } else { 2 };
+                assert_eq!(rt; time, want, "{call}");
             }
         }
     }
