@@ -419,7 +419,7 @@ struct Held {
 }
 
 impl Held {
-    /// Rule 2.10 for two changes of one place.
+    /// Which of two changes of one place wins.
     fn beats(&self, other: &Held) -> bool {
         self.ts
             .cmp(&other.ts)

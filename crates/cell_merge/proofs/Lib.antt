@@ -1,4 +1,4 @@
-mod InOrder
+pub mod InOrder
 mod WalkLaws
 mod SliceLaws
 mod MergeLaws

@@ -1,5 +1,5 @@
 -- What is left of a list, element by element.
-use Rattle.std.proofs.Common.{◌≡◌, ℕ, ◌+◌, ◌<◌, ◌⊎◌, ◌↔◌, inl, inr, Bool, true, false, not, IsTrue, List, [], ◌∷◌, ◌++◌, length, get_or, take, refl, sym, ◌∙◌, ap, subst, arith, Contains}
+use Rattle.std.proofs.Common.{◌≡◌, ◌==◌, ℕ, ◌+◌, ◌<◌, ◌⊎◌, ◌↔◌, inl, inr, Bool, true, false, not, IsTrue, List, [], ◌∷◌, ◌++◌, length, get_or, take, refl, sym, ◌∙◌, ap, subst, arith, Contains}
 use Rattle.std.specs.Prelude.{MatchBool}
 use Rattle.std.specs.List.{AllByRecursion, items_where_true}
 use Rattle.std.specs.List.Retain.{ReturnsInTurn, IsFiltered}
@@ -7,6 +7,7 @@ use Rattle.std.specs.List.Sorted.{IsStrictlySortedBy}
 use Rattle.std.specs.declared.cmp.Ordering.{Ordering}
 use Rattle.std.specs.declared.cmp.Ordering.TheVariants.{Less}
 use Rattle.std.proofs.lemmas.Bool.{false≢true}
+use Rattle.std.proofs.Common.{eqb-true}
 use Rattle.cs_base.proofs.Members.{contains_nil, contains_here, contains_there, contains_cases, front_more}
 use Rattle.cell_merge.specs.Parts.{IsParted}
 
@@ -48,6 +49,11 @@ module _ {X : Type 0} (K G : X → Type 0) where
   sorted_parted R (x ∷ xs) ys (rest, more, inl (k, e)) h =
       subst (λ (l : List X). IsStrictlySortedBy R l) (sym e) (all_parted (λ y. R x y ≡ Less) xs rest more h.0, sorted_parted R xs rest more h.1)
   sorted_parted R (x ∷ xs) ys (rest, more, inr (g, e)) h = subst (λ (l : List X). IsStrictlySortedBy R l) (sym e) (sorted_parted R xs rest more h.1)
+
+  -- all that has K is left
+  pub all_left : (xs : List X) → ((x : X) → K x) → IsParted K G xs xs
+  all_left [] h = refl
+  all_left (x ∷ xs) h = (xs, all_left xs h, inl (h x, refl))
 
   -- ---- one element more
 
@@ -92,3 +98,8 @@ module _ {X : Type 0} (K G : X → Type 0) where
 pub told_by : (b : Bool) (P : Type 0) → (IsTrue b ↔ P) → MatchBool (not b) (P → ⊥) P
 told_by true P h = h.0 refl
 told_by false P h = λ p. false≢true (h.1 p)
+
+-- what a test of the length tells
+pub empty_is : {X : Type 0} (xs : List X) (b : Bool) → b ≡ (length xs == 0) → b ≡ true → xs ≡ []
+empty_is [] b e t = refl
+empty_is (x ∷ xs) b e t = let z = eqb-true (length (x ∷ xs)) 0 (sym e ∙ t) in absurd (omega (arith, z))

@@ -53,3 +53,8 @@ pub record IsRanking (wide rows : List Held) (ranges : RangeIndex) : Type 0 wher
   pub over : AllWide wide
   pub inside : AllInRows rows
   pub index : IsIndexOf wide ranges
+
+-- changes in order: first others, and then those in rows
+pub record AreRivals (wide rows : List Held) : Type 0 where
+  pub ordered : AreInOrder (wide ++ rows)
+  pub inside : AllInRows rows

@@ -52,6 +52,15 @@ impl Content {
         Ok(Content { changes })
     }
 
+    /// The content of changes that are in order and none of which another one there outranks, without a look at them.
+    pub fn from_settled(changes: Vec<Held>) -> Content
+        requires ordered { AreInOrder changes.items }
+        requires apart { AreApart changes.items }
+        ensures { result ≡ changes.items }
+    {
+        Content { changes }
+    }
+
     /// The changes, in order.
     pub fn as_slice(&self) -> &[Held]
         ensures value { result.now ≡ self.now }

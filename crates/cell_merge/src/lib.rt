@@ -11,4 +11,5 @@ mod walk;
 pub use content::Content;
 pub use plain::PlainContent;
 pub use ranges::RangeIndex;
+pub use ranking::Rivals;
 pub use walk::RowWalk;

@@ -114,6 +114,9 @@ fn remove_outranked(
     requires { AreInOrder others.now }
     ensures { OnOk result (IsRidOf others.now changes.old.items changes.new.items) }
 {
+    if others.is_empty() {
+        return Ok(());
+    }
     let ranking = Ranking::new(alloc, others)?;
     changes.retain(|x| is_unrivalled(&ranking, x));
     Ok(())

@@ -121,3 +121,55 @@ impl<'a> Ranking<'a> {
         self.index.outranks(self.wide, x) || outranks_in_row(self.rows, x)
     }
 }
+
+/// Whether one of the changes outranks x, by a look at each.
+fn is_outranked_by(changes: &[Held], x: &Held) -> bool
+    ensures { IsTrue result ↔ IsOutrankedBy changes.now x.now }
+{
+    for y in changes {
+        if y.outranks(x) {
+            return true;
+        }
+    }
+    false
+}
+
+/// Changes in order that may outrank others, told without memory of their own: those in rows by binary search, and the
+/// deletions of ranges one after another.
+#[derive(Drop)]
+pub struct Rivals<'a> {
+    wide: &'a [Held],
+    rows: &'a [Held],
+}
+
+impl<'a> Model for Rivals<'a> {
+    ghost use Rattle.std.specs.Prelude.{List, ◌++◌};
+    ghost use Rattle.changes.specs.declared.Held.{Held};
+
+    ghost Value = { List Held };
+
+    ghost view = { λ a. a.wide.now ++ a.rows.now };
+
+    ghost use Rattle.cell_merge.specs.Ranges.{AreRivals};
+
+    ghost invariant = { λ a. AreRivals a.wide.now a.rows.now };
+}
+
+impl<'a> Rivals<'a> {
+    /// These changes. It costs the logarithm of their number.
+    pub fn new(changes: &'a [Held]) -> Rivals<'a>
+        requires { AreInOrder changes.now }
+        ensures { result ≡ changes.now }
+    {
+        let (wide, rows) = split_rows(changes);
+        Rivals { wide, rows }
+    }
+
+    /// Whether one of the changes outranks this one. It costs the logarithm of their number, and the number of deletions of
+    /// ranges among them.
+    pub fn outrank(&self, x: &Held) -> bool
+        ensures { IsTrue result ↔ IsOutrankedBy self.now x.now }
+    {
+        is_outranked_by(self.wide, x) || outranks_in_row(self.rows, x)
+    }
+}

@@ -1,7 +1,6 @@
 -- How lengths add up.
-use Rattle.std.proofs.Common.{◌≡◌, ◌≤◌, ◌+◌, ◌++◌, List, arith}
+use Rattle.std.proofs.Common.{◌++◌, arith}
 use Rattle.std.proofs.lemmas.List.Sums.{sum_by-append}
-use Rattle.changes.specs.declared.Held.{Held}
 use Rattle.changes.specs.Laws.{LengthsAddUp, PartsAreNoLonger}
 use Rattle.changes.specs.Lengths.{held_length}
 

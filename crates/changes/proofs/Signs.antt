@@ -1,6 +1,6 @@
 -- The order of rows and bounds: total, equal only for the same, and told by the bytes unless one is a beginning of the
 -- other. The ends are no bytes, so two signs that differ do so before either is over.
-use Rattle.std.proofs.Common.{◌≡◌, ◌≢◌, ℕ, ◌⊎◌, inl, inr, List, [], ◌∷◌, ◌++◌, Bool, true, false, ◌==◌, ◌&&◌, eqb-true, eq-eqb, refl, sym, ◌∙◌, ap, subst, arith, append_assoc}
+use Rattle.std.proofs.Common.{◌≡◌, ◌≢◌, ℕ, ◌⊎◌, inl, inr, List, [], ◌∷◌, ◌++◌, Bool, true, false, ◌==◌, ◌&&◌, eqb-true, eq-eqb, refl, sym, ◌∙◌, ap, subst, arith}
 use Rattle.std.proofs.lemmas.Bool.{false≢true, true≢false}
 use Rattle.std.specs.Cmp.Lexicographic.{slice_cmp}
 use Rattle.std.specs.List.{starts_with}
@@ -13,7 +13,7 @@ use Rattle.changes.specs.declared.Bound.{Bound}
 use Rattle.changes.specs.Order.{signs, end_of, row_signs, bound_signs, sign_cmp, signs_cmp, StandsBelow, NotAbove}
 use Rattle.changes.specs.Places.{bound_cmp}
 use Rattle.changes.specs.Tests.{is_past}
-use Rattle.changes.specs.Totals.{signs_total, bound_total}
+use Rattle.changes.specs.Totals.{signs_total}
 use Rattle.changes.proofs.Orderings.{then_assoc, then_end, then_equal, then_less, then_on, cases_ordering, lists_exact, bytes_exact, less_back, greater_back}
 
 pair_made : {a b : ℕ × ℕ} → a.0 ≡ b.0 → a.1 ≡ b.1 → a ≡ b

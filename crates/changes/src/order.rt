@@ -220,11 +220,32 @@ fn wide_order(a: &Place, b: &Place) -> Ordering
 {
     match (a, b) {
         (Place::RangeGone(from, upto), Place::RangeGone(start, end)) => {
-            from.cmp(start).then(upto.cmp(end))
+            match from.cmp(start) {
+                Ordering::Equal => upto.cmp(end),
+                Ordering::Less => Ordering::Less,
+                Ordering::Greater => Ordering::Greater,
+            }
         }
         (Place::RangeGone(_, _), _) => Ordering::Greater,
         (_, Place::RangeGone(_, _)) => Ordering::Less,
         _ => Ordering::Equal,
+    }
+}
+
+/// The order of places of any kind. Most places that are compared are cells: kept out of their comparison, which stays small.
+#[inline(never)]
+fn mixed_order(a: &Place, b: &Place) -> Ordering
+    ensures { result ≡ place_cmp a.now b.now }
+{
+    match (a.row(), b.row()) {
+        (Some(row), Some(beside)) => match row.cmp(beside) {
+            Ordering::Equal => a.step().cmp(&b.step()),
+            Ordering::Less => Ordering::Less,
+            Ordering::Greater => Ordering::Greater,
+        },
+        (Some(_), None) => Ordering::Greater,
+        (None, Some(_)) => Ordering::Less,
+        (None, None) => wide_order(a, b),
     }
 }
 
@@ -281,11 +302,13 @@ impl Ord for Place {
     ghost matches_eq = { λ a b. refl };
 
     fn cmp(&self, other: &Place) -> Ordering {
-        match (self.row(), other.row()) {
-            (Some(row), Some(beside)) => row.cmp(beside).then(self.step().cmp(&other.step())),
-            (Some(_), None) => Ordering::Greater,
-            (None, Some(_)) => Ordering::Less,
-            (None, None) => wide_order(self, other),
+        match (self, other) {
+            (Place::Cell(row, column), Place::Cell(beside, facing)) => match row.cmp(beside) {
+                Ordering::Equal => column.cmp(facing),
+                Ordering::Less => Ordering::Less,
+                Ordering::Greater => Ordering::Greater,
+            },
+            _ => mixed_order(self, other),
         }
     }
 }

@@ -1,5 +1,6 @@
--- A chronicle in print: a line for each answer, with the number of its request. The newest entry comes first.
-use Rattle.std.specs.Prelude.{◌≡◌, ℕ, ◌+◌, Bool, true, false, if◌then◌else◌, Option, Some, None, List, [], ◌∷◌, ◌++◌, length, codes, slice_get}
+-- A chronicle in print: a line for each answer, with the number of its request, and for what is told of a node itself. The
+-- newest entry comes first.
+use Rattle.std.specs.Prelude.{◌≡◌, ℕ, ◌+◌, Bool, true, false, if◌then◌else◌, Option, Some, None, List, [], ◌∷◌, ◌++◌, length, codes, flat_map, slice_get}
 use Rattle.std.specs.Fmt.{decimal}
 use Rattle.cs_base.specs.declared.ids.ReqId.{ReqId}
 use Rattle.cs_base.specs.Requests.{is_request}
@@ -14,12 +15,16 @@ use Rattle.statement_plan.specs.declared.plan.Columns.{Columns}
 use Rattle.statement_plan.specs.declared.plan.Columns.TheVariants.{Listed, Count}
 use Rattle.statement_plan.specs.Faults.{name_of}
 use Rattle.peer_messages.specs.declared.chronicle.Invalid.{Invalid}
-use Rattle.peer_messages.specs.declared.chronicle.Invalid.TheVariants.{SerialWrite, Level, UnknownTable, Statement}
+use Rattle.peer_messages.specs.declared.chronicle.Invalid.TheVariants.{SerialWrite, Level, UnknownTable, PartitionTooLarge, Statement}
 use Rattle.peer_messages.specs.declared.chronicle.Refusal.{Refusal}
 use Rattle.peer_messages.specs.declared.chronicle.Refusal.TheVariants as refusal
-use Rattle.peer_messages.specs.declared.chronicle.Refusal.TheVariants.{Unavailable, WriteTimeout, ReadTimeout, Overloaded}
+use Rattle.peer_messages.specs.declared.chronicle.Refusal.TheVariants.{Unavailable, WriteTimeout, ReadTimeout, Overloaded, Down}
 use Rattle.peer_messages.specs.declared.chronicle.Entry.{Entry}
-use Rattle.peer_messages.specs.declared.chronicle.Entry.TheVariants.{Asked, Submitted, Acked, Refused, Used, Began, Rows, Time, Turned}
+use Rattle.peer_messages.specs.declared.chronicle.Entry.TheVariants.{Asked, Submitted, Acked, Refused, Used, Began, Rows, Time, Marks, Turned, Tables, Stopped}
+
+-- the entries of a chronicle that comes in pieces
+abbrev pub joined : List (List Entry) → List Entry
+joined pieces = flat_map (λ (piece : List Entry). piece) pieces
 
 -- ---- numbers: each request that came has its place among them all
 
@@ -90,6 +95,7 @@ abbrev pub invalid_text : Invalid → List ℕ
 invalid_text SerialWrite = codes "SerialWrite"
 invalid_text Level = codes "Level"
 invalid_text UnknownTable = codes "UnknownTable"
+invalid_text PartitionTooLarge = codes "PartitionTooLarge"
 invalid_text (Statement fault) = name_of fault
 
 abbrev pub data_text : Bool → List ℕ
@@ -105,9 +111,22 @@ refusal_text (WriteTimeout received blockfor) = timeout_text (codes "write-timeo
 refusal_text (ReadTimeout received blockfor replied) = timeout_text (codes "read-timeout") received blockfor (data_text replied)
 refusal_text Overloaded = codes "overloaded"
 refusal_text (refusal.Invalid why) = codes "invalid " ++ invalid_text why
+refusal_text Down = codes "down"
 
 abbrev pub refused_line : ℕ → Refusal → List ℕ
 refused_line number why = decimal number ++ 32 ∷ refusal_text why ++ 10 ∷ []
+
+-- ---- what is told of a node itself
+
+abbrev pub tables_text : ℕ → List ℕ
+tables_text node = codes "tables " ++ decimal node
+
+-- how many tables it has
+abbrev pub tables_line : ℕ → ℕ → List ℕ
+tables_line node count = tables_text node ++ 32 ∷ decimal count ++ 10 ∷ []
+
+abbrev pub stopped_line : ℕ → List ℕ
+stopped_line node = codes "stopped " ++ decimal node ++ 10 ∷ []
 
 -- what an entry prints, behind those before it
 abbrev pub IsEntryInPrint : List Table → List Entry → Entry → List ℕ → Type 0
@@ -119,8 +138,11 @@ IsEntryInPrint tables earlier (Used request keyspace) lines = lines ≡ used_lin
 IsEntryInPrint tables earlier (Began request query level columns) lines = lines ≡ []
 IsEntryInPrint tables earlier (Rows request rows more grounds) lines = AreRows tables (shape_of earlier request) (number_of earlier request) rows lines
 IsEntryInPrint tables earlier (Time node time) lines = lines ≡ []
+IsEntryInPrint tables earlier (Marks node alive) lines = lines ≡ []
 -- of the request that came last
 IsEntryInPrint tables earlier (Turned node why) lines = lines ≡ refused_line (asked_count earlier) why
+IsEntryInPrint tables earlier (Tables node count) lines = lines ≡ tables_line node count
+IsEntryInPrint tables earlier (Stopped node) lines = lines ≡ stopped_line node
 
 -- the text is the chronicle in print, for these tables by number
 abbrev pub IsInPrint : List Table → List Entry → List ℕ → Type 0

@@ -1,9 +1,10 @@
-//! The lines of answers.
+//! The lines of answers, and of what is told of a node itself.
 
 ghost use Rattle.std.specs.Prelude.{◌≡◌, ◌++◌, OnOk};
 ghost use Rattle.std.specs.Fmt.{decimal};
-ghost use Rattle.chronicle_print.specs.Printed.{acked_line, used_line, data_text, timeout_text, invalid_text, refusal_text, refused_line};
+ghost use Rattle.chronicle_print.specs.Printed.{acked_line, used_line, data_text, timeout_text, invalid_text, refusal_text, refused_line, tables_text, tables_line, stopped_line};
 
+use cs_base::NodeId;
 use peer_messages::{Invalid, Refusal};
 use std::alloc::{AllocError, Global};
 
@@ -119,6 +120,7 @@ fn invalid_name(why: Invalid) -> &'static str
         Invalid::SerialWrite => "SerialWrite",
         Invalid::Level => "Level",
         Invalid::UnknownTable => "UnknownTable",
+        Invalid::PartitionTooLarge => "PartitionTooLarge",
         Invalid::Statement(fault) => fault.name(),
     }
 }
@@ -145,6 +147,7 @@ fn push_refusal(alloc: Global, out: &mut Vec<u8>, refusal: Refusal) -> Result<()
         } => push_read_timeout(alloc, out, received, blockfor, data),
         Refusal::Overloaded => out.extend_from_slice(b"overloaded"),
         Refusal::Invalid(why) => push_invalid(out, why),
+        Refusal::Down => out.extend_from_slice(b"down"),
     }
 }
 
@@ -162,4 +165,56 @@ pub(crate) fn push_refused(
     push_refusal(alloc, out, refusal)?;
     out.push(b'\n')?;
     Ok(())
+}
+
+fn push_tables_text(alloc: Global, out: &mut Vec<u8>, node: u64) -> Result<(), AllocError>
+    ensures { OnOk result (out.new.items ≡ out.old.items ++ tables_text node) }
+{
+    out.extend_from_slice(b"tables ")?;
+    push_number(alloc, out, node)
+}
+
+fn push_table_count(
+    alloc: Global,
+    out: &mut Vec<u8>,
+    node: u64,
+    count: u64,
+) -> Result<(), AllocError>
+    ensures { OnOk result (out.new.items ≡ out.old.items ++ tables_line node count) }
+{
+    push_tables_text(alloc, out, node)?;
+    out.push(b' ')?;
+    push_number(alloc, out, count)?;
+    out.push(b'\n')?;
+    Ok(())
+}
+
+/// The line of a node's tables.
+pub(crate) fn push_tables(
+    alloc: Global,
+    out: &mut Vec<u8>,
+    node: NodeId,
+    count: u32,
+) -> Result<(), AllocError>
+    ensures { OnOk result (out.new.items ≡ out.old.items ++ tables_line node count) }
+{
+    let (node, count) = (u64::from(node.number()), u64::from(count));
+    push_table_count(alloc, out, node, count)
+}
+
+fn push_stop(alloc: Global, out: &mut Vec<u8>, node: u64) -> Result<(), AllocError>
+    ensures { OnOk result (out.new.items ≡ out.old.items ++ stopped_line node) }
+{
+    out.extend_from_slice(b"stopped ")?;
+    push_number(alloc, out, node)?;
+    out.push(b'\n')?;
+    Ok(())
+}
+
+/// The line of a node that stopped.
+pub(crate) fn push_stopped(alloc: Global, out: &mut Vec<u8>, node: NodeId) -> Result<(), AllocError>
+    ensures { OnOk result (out.new.items ≡ out.old.items ++ stopped_line node) }
+{
+    let node = u64::from(node.number());
+    push_stop(alloc, out, node)
 }

@@ -1,5 +1,10 @@
 pub mod Places
 pub mod Open
-pub mod Sizes
-pub mod Entering
-pub mod Reaching
+pub mod Fits
+pub mod Going
+pub mod Changing
+pub mod Stores
+pub mod Begun
+pub mod Settling
+pub mod Keeping
+pub mod Whole

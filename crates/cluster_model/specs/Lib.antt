@@ -1,4 +1,9 @@
 pub mod State
 pub mod Takes
-pub mod Sites
+pub mod Turns
 pub mod Mails
+pub mod Annals
+pub mod Faults
+pub mod Sites
+pub mod Holding
+pub mod Beginning

@@ -1,7 +1,7 @@
 -- The messages of a cluster as they are kept.
-use Rattle.std.specs.Prelude.{◌≡◌, ◌+◌, ◌*◌, ◌≤◌, ◌<◌, ℕ, true, Some, Bool, List, length, take, slice_get}
+use Rattle.std.specs.Prelude.{◌≡◌, ◌+◌, ◌*◌, ◌≤◌, ◌<◌, ℕ, true, Option, Some, None, Bool, List, length, take, slice_get}
 use Rattle.peer_messages.specs.declared.message.Message.{Message}
-use Rattle.cluster_model.specs.State.{Post, places_from}
+use Rattle.cluster_model.specs.State.{Post, places_from, with_sent}
 use Rattle.cluster_model.specs.declared.routes.Routes.{Routes}
 use Rattle.cluster_model.specs.declared.mail.Mail.{Mail}
 
@@ -15,8 +15,13 @@ pub record AreFiled (r : Routes) (sent : List Message) : Type 0 where
   pub within : r.filed ≤ length sent
   pub places : ArePlaces r.places.items (take r.filed sent)
 
+-- those that are sorted in, and then the newest ones
+abbrev pub with_news : Post → Option (List Message) → Post
+with_news post None = post
+with_news post (Some messages) = with_sent post messages
+
 abbrev pub post_of : Mail → Post
-post_of m = record { sent = m.sent.items; passed = m.passed.items }
+post_of m = with_news (record { sent = m.sent.items; passed = m.passed.items }) m.news
 
 -- the first n were passed
 abbrev pub ArePassed : ℕ → List Bool → Type 0

@@ -3,33 +3,66 @@ use Rattle.std.specs.Prelude.{◌≡◌, ◌==◌, ◌&&◌, ◌+◌, ◌++◌, 
 use Rattle.peer_messages.specs.declared.message.Message.{Message}
 use Rattle.peer_messages.specs.declared.chronicle.Entry.{Entry}
 use Rattle.peer_messages.specs.declared.setting.Setting.{Setting}
-use Rattle.node_steps.specs.State.{NodeState}
-use Rattle.node_steps.specs.Acts.{Deed}
-use Rattle.node_core.specs.Views.{NodeView, view_of, fresh_view}
-use Rattle.cluster_runs.specs.World.{World}
-use Rattle.cluster_runs.specs.Run.{Run}
+use Rattle.durable_state.specs.State.{Durable, IsSameKept, formatted}
+use Rattle.node_steps.specs.State.{NodeState, loaded}
+use Rattle.cluster_runs.specs.World.{World, Standing, Running, Down}
+use Rattle.cluster_runs.specs.Run.{RunFrom}
+use Rattle.cluster_model.specs.declared.told.Told.{Told}
+
+-- a node that runs, or one that is down, of which nothing is seen
+pub data Showing : Type 0 where
+  Up : (state : NodeState) → Showing
+  Off : Showing
+
+-- A node, its clock, and the faults that its store was told since it last stopped
+pub record Site : Type 0 where
+  pub node : Showing
+  pub clock : ℕ
+  pub told : List Told
 
 -- Each message that was sent, the oldest first, and whether it was delivered or dropped
 pub record Post : Type 0 where
   pub sent : List Message
   pub passed : List Bool
 
--- the nodes by number, and the chronicle, newest first
+-- the nodes by number, what they were loaded with at first, and the chronicle, newest first
 pub record ClusterState : Type 0 where
   pub setting : Setting
-  pub nodes : List NodeView
+  pub first : List NodeState
+  pub sites : List Site
   pub post : Post
   pub chronicle : List Entry
 
-abbrev pub fresh_cluster : Setting → ClusterState
-fresh_cluster c = record { setting = c; nodes = replicate (length c.ring) fresh_view; post = record { sent = []; passed = [] }; chronicle = [] }
+-- ---- runs
 
-abbrev pub world_of : ClusterState → List NodeState → List Deed → World
-world_of v nodes past = record { nodes = nodes; sent = v.post.sent; chronicle = v.chronicle; past = past }
+abbrev pub no_post : Post
+no_post = record { sent = []; passed = [] }
 
--- some run comes to a world that shows this
+-- nodes that were just loaded, and nothing has happened
+abbrev pub begin_of : List NodeState → World
+begin_of first = record { standing = map Running first; sent = []; chronicle = []; past = [] }
+
+abbrev pub shown_of : Standing → Showing
+shown_of (Running s) = Up s
+shown_of (Down s made) = Off
+
+abbrev pub node_of : Site → Showing
+node_of site = site.node
+
+-- a world looks so
+pub record IsShown (w : World) (v : ClusterState) : Type 0 where
+  pub nodes : map node_of v.sites ≡ map shown_of w.standing
+  pub sent : v.post.sent ≡ w.sent
+  pub chronicle : v.chronicle ≡ w.chronicle
+
+-- some run from what the nodes were loaded with comes to a world that looks so
 abbrev pub IsReached : ClusterState → Type 0
-IsReached v = (nodes : List NodeState) × (past : List Deed) × (map view_of nodes ≡ v.nodes) × Run v.setting (world_of v nodes past)
+IsReached v = (w : World) × RunFrom v.setting (begin_of v.first) w × IsShown w v
+
+-- each was loaded from a formatted store, which keeps nothing
+pub record AreFresh (c : Setting) (first : List NodeState) : Type 0 where
+  pub count : length first ≡ length c.ring
+  pub each : (k : ℕ) (s : NodeState) → slice_get first k ≡ Some s → (d : Durable) × IsSameKept formatted d × (s ≡ loaded d)
 
 -- ---- messages by place
 
@@ -55,5 +88,13 @@ oldest_from i (passed ∷ rest) = if passed then oldest_from (i + 1) rest else S
 abbrev pub with_sent : Post → List Message → Post
 with_sent post messages = record { sent = post.sent ++ messages; passed = post.passed ++ replicate (length messages) false }
 
+abbrev pub passed_at : Post → ℕ → Post
+passed_at post i = record { sent = post.sent; passed = slice_set post.passed i true }
+
 abbrev pub passed_over : ClusterState → ℕ → ClusterState
-passed_over v i = record v { post = record { sent = v.post.sent; passed = slice_set v.post.passed i true } }
+passed_over v i = record v { post = passed_at v.post i }
+
+-- what no event changes
+pub record KeepsOn (v v' : ClusterState) : Type 0 where
+  pub setting : v'.setting ≡ v.setting
+  pub first : v'.first ≡ v.first

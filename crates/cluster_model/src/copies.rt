@@ -48,5 +48,6 @@ pub(crate) fn copy_setting(alloc: Global, setting: &Setting) -> Result<Setting, 
     Ok(Setting {
         ring: setting.ring,
         tables: copy_tables(alloc, setting.tables.as_slice())?,
+        expiry: setting.expiry,
     })
 }

@@ -1,3 +1,4 @@
 pub mod ProgramLaws
 pub mod RunLaws
+pub mod StopLaws
 pub mod StreamLaws

@@ -1,26 +1,28 @@
--- The run of a script goes on by one event, and no event changes the setting.
-use Rattle.std.proofs.Common.{◌≡◌, ℕ, zero, suc, Bool, true, false, Option, Some, None, List, [], ◌∷◌, ◌++◌, refl, sym, ap, subst, ◌∙◌, append_assoc, reverse}
+-- The run of a script goes on by one event.
+use Rattle.std.proofs.Common.{◌≡◌, ℕ, zero, suc, Option, Some, None, List, [], ◌∷◌, ◌++◌, refl, sym, ap, subst, ◌∙◌, append_assoc, reverse}
+use Rattle.std.proofs.lemmas.Grind.{flat_map-append}
 use Rattle.std.proofs.lemmas.List.{append-nil, reverse-append}
-use Rattle.std.specs.Prelude.{Result, Ok, Err, IfOk, MatchBool, nat_lt, slice_get}
-use Rattle.peer_messages.specs.declared.message.Message.{Message}
-use Rattle.peer_messages.specs.declared.event.What.{What}
-use Rattle.peer_messages.specs.declared.event.What.TheVariants.{Client, Deliver, Alive, Tick}
+use Rattle.std.specs.Prelude.{Result, Ok, Err, IfOk, slice_get}
+use Rattle.cs_store.specs.declared.mem.MemStore.{MemStore}
+use Rattle.cs_store.specs.Images.{Images, quiet, formatted_bytes}
+use Rattle.cs_store.specs.Mem.{images_of}
+use Rattle.peer_messages.specs.declared.chronicle.Entry.{Entry}
 use Rattle.peer_messages.specs.declared.setting.Setting.{Setting}
-use Rattle.node_steps.specs.Steps.{risen_time, end_of_time}
-use Rattle.node_core.specs.Views.{NodeView}
 use Rattle.read_consistency.specs.ReadRight.{ReadRight}
-use Rattle.chronicle_print.specs.Printed.{IsInPrint}
 use Rattle.schema_book.specs.Books.{Book}
 use Rattle.schema_book.specs.declared.table.Table.{Table}
-use Rattle.peer_messages.specs.declared.chronicle.Entry.{Entry}
-use Rattle.cluster_model.specs.State.{ClusterState, IsReached, fresh_cluster, place_of, oldest_from, passed_over}
-use Rattle.cluster_model.specs.Takes.{ComesAt, StepsAt, Arrives, Delivers, Settles, Takes, event_of as what_event, not_stepped, lost}
+use Rattle.chronicle_print.specs.Printed.{IsInPrint, joined}
+use Rattle.cluster_model.specs.Beginning.{Begins, IsFormatted, AreFormatted}
+use Rattle.cluster_model.specs.State.{ClusterState, IsReached, AreFresh, KeepsOn}
+use Rattle.cluster_model.specs.Takes.{Takes}
 use Rattle.cluster_model.specs.declared.event.ClusterEvent.{ClusterEvent}
-use Rattle.cluster_model.specs.declared.event.ClusterEvent.TheVariants as event
+use Rattle.durable_state.specs.State.{Durable}
 use Rattle.fault_script.specs.declared.script.Script.{Script}
 use Rattle.fault_script.specs.declared.script.ScriptEvent.{ScriptEvent}
 use Rattle.cluster_program.specs.Requests.{IsEventOf, setting_of}
-use Rattle.cluster_program.specs.Runs.{named_by, keyspace_after, Plays, IsRunInPrint}
+use Rattle.cluster_program.specs.Runs.{newest, keyspace_after, Plays, IsFresh, IsRunInPrint}
+use Rattle.cluster_program.specs.Stops.{StopsAreNamed}
+use Rattle.cluster_program.proofs.StopLaws.{stops_are_named}
 
 -- ---- one event more
 
@@ -39,75 +41,83 @@ plays_more book start v mid done keyspace e event h is takes rest v' later =
 pub plays_all : (book : Book) (start v : ClusterState) (done : List ScriptEvent) (keyspace : Option (List ℕ)) → PlaysOn book start done keyspace v → Plays book None start done v
 plays_all book start v done keyspace h = subst (λ (es : List ScriptEvent). Plays book None start es v) (append-nil done) (h [] v refl)
 
--- ---- the keyspace in use
+-- ---- the newest entry
 
-pub named_last : (xs : List Entry) (x : Entry) (keyspace : Option (List ℕ)) → keyspace_after keyspace (reverse (xs ++ x ∷ [])) ≡ named_by x keyspace
-named_last xs x keyspace = ap (keyspace_after keyspace) (reverse-append xs (x ∷ []))
+-- an empty piece at the end is passed over
+pub newest_before : (front : List Entry) (piece : List Entry) → piece ≡ [] → newest (reverse (front ++ piece)) ≡ newest (reverse front)
+newest_before front piece none = ap (λ (es : List Entry). newest (reverse es)) (ap (λ (es : List Entry). front ++ es) none ∙ append-nil front)
 
--- ---- the setting stays
+pub newest_last : (front : List Entry) (piece : List Entry) (e : Entry) → newest (reverse (front ++ (piece ++ e ∷ []))) ≡ Some e
+newest_last front piece e =
+    ap (λ (es : List Entry). newest (reverse es)) (sym (append_assoc front piece (e ∷ []))) ∙ ap newest (reverse-append (front ++ piece) (e ∷ []))
 
-abbrev Stays : ClusterState → ClusterState → Type 0
-Stays v v' = v'.setting ≡ v.setting
+-- ---- in pieces
 
-same_stays : (v v' : ClusterState) → v' ≡ v → Stays v v'
-same_stays v v' same = ap (λ (x : ClusterState). x.setting) same
+joined_last : (front : List (List Entry)) (piece : List Entry) → joined (front ++ piece ∷ []) ≡ joined front ++ piece
+joined_last front piece = flat_map-append (λ (es : List Entry). es) front (piece ∷ []) ∙ ap (λ (es : List Entry). joined front ++ es) (append-nil piece)
 
-unstepped_stays : (v : ClusterState) (k : ℕ) (what : What) → Stays v (not_stepped v k what)
-unstepped_stays v k (Client ask) = refl
-unstepped_stays v k (Deliver m) = refl
-unstepped_stays v k (Alive peer up) = refl
-unstepped_stays v k Tick = refl
+-- the last piece has no entry
+pub newest_skips : (rest front : List (List Entry)) (piece : List Entry) → rest ≡ front ++ piece ∷ [] → piece ≡ [] → newest (reverse (joined rest)) ≡ newest (reverse (joined front))
+newest_skips rest front piece split none =
+    ap (λ (pieces : List (List Entry)). newest (reverse (joined pieces))) split ∙ (ap (λ (es : List Entry). newest (reverse es)) (joined_last front piece) ∙ newest_before (joined front) piece none)
 
-taken_stays : (b : Bool) (v v' : ClusterState) (k : ℕ) (s : NodeView) (what : What) → MatchBool b (v' ≡ not_stepped v k what) (StepsAt v k s what v') → Stays v v'
-taken_stays true v v' k s what h = same_stays (not_stepped v k what) v' h ∙ unstepped_stays v k what
-taken_stays false v v' k s what h = ap (λ (x : ClusterState). x.setting) h.state
+pub newest_found : (rest front : List (List Entry)) (piece before : List Entry) (e : Entry) → rest ≡ front ++ piece ∷ [] → piece ≡ before ++ e ∷ [] → newest (reverse (joined rest)) ≡ Some e
+newest_found rest front piece before e split last =
+    ap (λ (pieces : List (List Entry)). newest (reverse (joined pieces))) split
+    ∙ (ap (λ (es : List Entry). newest (reverse es)) (joined_last front piece ∙ ap (λ (es : List Entry). joined front ++ es) last) ∙ newest_last (joined front) before e)
 
-at_stays : (o : Option NodeView) (v v' : ClusterState) (k : ℕ) (what : What) → ComesAt v k what o v' → Stays v v'
-at_stays None v v' k what h = same_stays v v' h
-at_stays (Some s) v v' k what h = taken_stays (nat_lt end_of_time (risen_time s.time (what_event what))) v v' k s what h
+-- ---- stores
 
-arrives_stays : (o : Option Message) (v v' : ClusterState) (i : ℕ) → Arrives v i o v' → Stays v v'
-arrives_stays None v v' i h = same_stays v v' h
-arrives_stays (Some m) v v' i (mid, comes, is) = same_stays (passed_over mid i) v' is ∙ at_stays (slice_get v.nodes m.upto) v mid m.upto (Deliver m) comes
+some_same : {X : Type 0} (x y : X) → Some x ≡ Some y → x ≡ y
+some_same x y e = cc
 
-delivers_stays : (o : Option ℕ) (v v' : ClusterState) → Delivers v o v' → Stays v v'
-delivers_stays None v v' h = same_stays v v' h
-delivers_stays (Some i) v v' h = arrives_stays (slice_get v.post.sent i) v v' i h
+nothing_at : (k : ℕ) (x : MemStore) → slice_get [] k ≡ Some x → ⊥
+nothing_at zero x e = cc
+nothing_at (suc k) x e = cc
 
-lost_stays : (o : Option ℕ) (v : ClusterState) → Stays v (lost v o)
-lost_stays None v = refl
-lost_stays (Some i) v = refl
+formatted_at : (s : MemStore) → ((f : ℕ) → images_of s f ≡ quiet (formatted_bytes f)) → IsFormatted s
+formatted_at s files f = sym (ap (λ (i : Images). i.kept) (files f))
 
-settles_stays : (n : ℕ) (v v' : ClusterState) → Settles n v v' → Stays v v'
-settles_stays zero v v' h = same_stays v v' h
-settles_stays (suc n) v v' (mid, first, rest) = settles_stays n mid v' rest ∙ delivers_stays (oldest_from 0 v.post.passed) v mid first
+pub formatted_more : (stores more : List MemStore) (s : MemStore) → more ≡ stores ++ s ∷ [] → ((f : ℕ) → images_of s f ≡ quiet (formatted_bytes f)) → AreFormatted stores → AreFormatted more
+formatted_more [] more s is files are zero x at = subst IsFormatted (some_same s x (subst (λ (ss : List MemStore). slice_get ss zero ≡ Some x) is at)) (formatted_at s files)
+formatted_more [] more s is files are (suc k) x at = absurd (nothing_at k x (subst (λ (ss : List MemStore). slice_get ss (suc k) ≡ Some x) is at))
+formatted_more (y ∷ ys) more s is files are zero x at = are zero x (subst (λ (ss : List MemStore). slice_get ss zero ≡ Some x) is at)
+formatted_more (y ∷ ys) more s is files are (suc k) x at =
+    formatted_more ys (ys ++ s ∷ []) s refl files (λ j z there. are (suc j) z there) k x (subst (λ (ss : List MemStore). slice_get ss (suc k) ≡ Some x) is at)
 
-takes_stays : (e : ClusterEvent) (v v' : ClusterState) → Takes v e v' → Stays v v'
-takes_stays (event.Ask k ask) v v' h = at_stays (slice_get v.nodes k) v v' k (Client ask) h
-takes_stays (event.Deliver from upto k) v v' h = delivers_stays (place_of from upto k v.post.sent) v v' h
-takes_stays (event.Lose from upto k) v v' h = same_stays (lost v (place_of from upto k v.post.sent)) v' h ∙ lost_stays (place_of from upto k v.post.sent) v
-takes_stays (event.Settle n) v v' h = settles_stays n v v' h
+pub none_formatted : AreFormatted []
+none_formatted k x at = absurd (nothing_at k x at)
 
-pub plays_stays : (book : Book) (es : List ScriptEvent) (keyspace : Option (List ℕ)) (v v' : ClusterState) → Plays book keyspace v es v' → Stays v v'
-plays_stays book [] keyspace v v' h = same_stays v v' h
-plays_stays book (e ∷ es) keyspace v v' (event, mid, is, first, rest) = plays_stays book es (keyspace_after keyspace mid.chronicle) mid v' rest ∙ takes_stays event v mid first
+-- ---- what no event changes
+
+pub keeps_itself : (v : ClusterState) → KeepsOn v v
+keeps_itself v = record { setting = refl; first = refl }
+
+pub keeps_more : (v mid v' : ClusterState) → KeepsOn v mid → KeepsOn mid v' → KeepsOn v v'
+keeps_more v mid v' before then_on = record { setting = then_on.setting ∙ before.setting; first = then_on.first ∙ before.first }
 
 -- ---- the whole run
 
-pub in_print : (script : Script) (text : List ℕ) (tables : List Table) (c : Setting) (before after : ClusterState) (es : List ScriptEvent) → c ≡ setting_of script → before ≡ fresh_cluster c → es ≡ script.events → tables ≡ script.schema.tables
-    → Plays script.schema None before es after → IsReached after → ReadRight after.setting after.chronicle → IsInPrint tables after.chronicle text → IsRunInPrint script text
-in_print script text tables c before after es setting fresh events same plays reached right print =
-    let from : Plays script.schema None (fresh_cluster (setting_of script)) script.events after =
-    subst (λ (d : Setting). Plays script.schema None (fresh_cluster d) script.events after) setting
-    (subst (λ (v : ClusterState). Plays script.schema None v script.events after) fresh (subst (λ (xs : List ScriptEvent). Plays script.schema None before xs after) events plays)) in
+pub in_print : (script : Script) (text : List ℕ) (tables : List Table) (c : Setting) (before after : ClusterState) (es : List ScriptEvent) → KeepsOn before after → c ≡ setting_of script → IsFresh c before → es ≡ script.events → tables ≡ script.schema.tables
+    → Plays script.schema None before es after → IsReached after → (AreFresh after.setting after.first → ReadRight after.setting after.chronicle) → IsInPrint tables after.chronicle text → IsRunInPrint script text
+in_print script text tables c before after es kept setting fresh events same plays reached right print =
+    let same_setting : after.setting ≡ c = kept.setting ∙ fresh.setting in
+    let as_first : AreFresh c after.first = subst (AreFresh c) (sym kept.first) fresh.first in
+    let of_setting : AreFresh after.setting after.first = subst (λ (d : Setting). AreFresh d after.first) (sym same_setting) as_first in
     record {
+      before = before;
       after = after;
-      plays = from;
+      fresh = subst (λ (d : Setting). IsFresh d before) setting fresh;
+      plays = subst (λ (xs : List ScriptEvent). Plays script.schema None before xs after) events plays;
       reached = reached;
-      right = subst (λ (d : Setting). ReadRight d after.chronicle) (plays_stays script.schema script.events None (fresh_cluster (setting_of script)) after from) right;
+      named = subst (λ (xs : List ScriptEvent). StopsAreNamed xs after.sites) events (stops_are_named script.schema es before after before.first fresh.sites plays);
+      right = subst (λ (d : Setting). ReadRight d after.chronicle) (same_setting ∙ setting) (right of_setting);
       print = subst (λ (ts : List Table). IsInPrint ts after.chronicle text) same print;
     }
 
 pub if_ok_more : {T E : Type 0} {P Q : T → Type 0} (r : Result T E) → IfOk r P → ((t : T) → P t → Q t) → IfOk r Q
 if_ok_more (Ok t) h more = more t h
 if_ok_more (Err e) h more = h
+
+pub begins_fresh : (stands_for : (ℕ → List ℕ) → Durable → Type 0) (c : Setting) (stores : List MemStore) (v : ClusterState) → Begins stands_for c stores v → AreFresh c v.first → IsFresh c v
+begins_fresh stands_for c stores v h fresh = record { setting = h.setting; first = fresh; sites = h.sites; post = h.post; chronicle = h.chronicle }

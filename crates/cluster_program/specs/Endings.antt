@@ -71,12 +71,13 @@ IsRefusalStatus status.NoThread = ⊥
 IsRefusalStatus status.HistoryFull = ⊥
 IsRefusalStatus status.Damaged = ⊥
 
--- what a text that is no script ends with, and what a script ends with
-abbrev pub IsRefusedWith : Status → Type 0
-IsRefusedWith s = (s ≡ status.BadScript) ⊎ (s ≡ status.ReadFault) ⊎ (s ≡ status.NoMemory)
+-- What a text that is no script ends with, by the source's count of faults, and what a script ends with, by the sink's too
+abbrev pub IsRefusedWith : ℕ → ℕ → Status → Type 0
+IsRefusedWith reads reads' s = (s ≡ status.BadScript) ⊎ (s ≡ status.NoMemory) ⊎ ((s ≡ status.ReadFault) × HasRisen reads reads')
 
-abbrev pub IsServedWith : Status → Type 0
-IsServedWith s = (s ≡ status.Ok) ⊎ (s ≡ status.ReadFault) ⊎ (s ≡ status.WriteFault) ⊎ (s ≡ status.NoMemory)
+abbrev pub IsServedWith : ℕ → ℕ → ℕ → ℕ → Status → Type 0
+IsServedWith reads reads' writes writes' s =
+    (s ≡ status.Ok) ⊎ (s ≡ status.NoMemory) ⊎ ((s ≡ status.ReadFault) × HasRisen reads reads') ⊎ ((s ≡ status.WriteFault) × HasRisen writes writes')
 
 -- the script is refused, and its line is told
 abbrev pub RefusesScript : Refusal → (List ℕ → Type 0) → Type 0

@@ -2,4 +2,5 @@ pub mod Commands
 pub mod Endings
 pub mod Requests
 pub mod Runs
+pub mod Stops
 pub mod Streams

@@ -1,5 +1,5 @@
 -- What the lines of a script ask of a cluster.
-use Rattle.std.specs.Prelude.{◌≡◌, ◌⊎◌, ℕ, ℤ, Option, Some, None, List, [], ◌∷◌, map, codes}
+use Rattle.std.specs.Prelude.{◌≡◌, ◌⊎◌, ◌*◌, ℕ, ℤ, Option, Some, None, List, [], ◌∷◌, map, codes}
 use Rattle.cs_base.specs.declared.level.Level.{Level}
 use Rattle.cql_values.specs.Literals.{literal_text}
 use Rattle.cql_values.specs.declared.value.CqlValue.TheVariants as values
@@ -38,9 +38,9 @@ use Rattle.fault_script.specs.declared.script.ScriptEvent.TheVariants as line
 abbrev pub table_setting : Table → TableSetting
 table_setting table = record { factor = table.factor }
 
--- a node for each token, and the tables of the schema
+-- a node for each token, the tables of the schema, and in microseconds the time after which a message is too old
 abbrev pub setting_of : Script → Setting
-setting_of script = record { ring = script.ring; tables = map table_setting script.schema.tables }
+setting_of script = record { ring = script.ring; tables = map table_setting script.schema.tables; expiry = script.expiry * 1000000 }
 
 -- ---- `put` and `get` are statements on script.kv
 
@@ -108,3 +108,10 @@ IsEventOf book keyspace (line.Cql request) e = (s : Statement) × IsOneStatement
 IsEventOf book keyspace (line.Deliver place) e = e ≡ cluster.Deliver place.from place.upto place.number
 IsEventOf book keyspace (line.Drop place) e = e ≡ cluster.Lose place.from place.upto place.number
 IsEventOf book keyspace (line.Settle count) e = e ≡ cluster.Settle count
+IsEventOf book keyspace (line.Clock node micros) e = e ≡ cluster.Clock node micros
+IsEventOf book keyspace (line.Crash node outcome) e = e ≡ cluster.Crash node outcome
+IsEventOf book keyspace (line.StopAt node call outcome) e = e ≡ cluster.StopAt node call outcome
+IsEventOf book keyspace (line.FailAt node call) e = e ≡ cluster.FailAt node call
+IsEventOf book keyspace (line.Restart node) e = e ≡ cluster.Restart node
+IsEventOf book keyspace (line.Flush node) e = e ≡ cluster.Flush node
+IsEventOf book keyspace (line.Merge node) e = e ≡ cluster.Merge node

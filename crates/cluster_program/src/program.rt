@@ -17,7 +17,11 @@ use crate::streams::{ReadError, read_all, write_all};
 use chronicle_print::push_number;
 use cs_base::Failed;
 use cs_io::{Sink, Source};
-use fault_script::{ParseError, Script, ScriptError, one_reading, parse, statements_are_read};
+use fault_script::{
+    ParseError, Script, ScriptError, one_reading, parse, scripts_have_an_expiry,
+    statements_are_read,
+};
+use list_replica::MemListReplica;
 use std::alloc::{AllocError, Global};
 
 /// How the program ended. `script` never ends with `StoreFault`, `DoorFault`, `NoThread`, `HistoryFull` or `Damaged`,
@@ -112,9 +116,11 @@ fn read_script<S: Source>(alloc: Global, source: &mut S) -> Result<Script, Refus
     ensures end { OnOk result (IfSome (S.remaining source.old) (λ _. S.remaining source.new ≡ Some [])) }
     ensures refused { IfErr result (λ r. IfSome (S.remaining source.old) (λ left. IsRefused left r)) }
     ensures said { IfOk result (λ script. All IsSaid script.events) }
+    ensures expiry { IfOk result (λ script. script.expiry ≤ 100000) }
     ensures failed { IsErrOf result Refusal.ReadFault → HasRisen (S.faults source.old) (S.faults source.new) }
 {
     statements_are_read();
+    scripts_have_an_expiry();
     let text = read_all(alloc, source)?;
     Ok(parse(alloc, &text)?)
 }
@@ -127,7 +133,7 @@ fn print_run<S: Source>(alloc: Global, source: &mut S) -> Result<Vec<u8>, Refusa
     ensures failed { IsErrOf result Refusal.ReadFault → HasRisen (S.faults source.old) (S.faults source.new) }
 {
     let script = read_script(alloc, source)?;
-    Ok(run(alloc, &script)?)
+    Ok(run::<MemListReplica>(alloc, &script)?)
 }
 
 /// The command that the words name.
@@ -254,8 +260,8 @@ fn run_script<S: Source, T: Sink>(alloc: Global, source: &mut S, sink: &mut T) -
     ensures write_fault { result ≡ Status.WriteFault → HasRisen (T.faults sink.old) (T.faults sink.new) }
     ensures written { result ≡ Status.WriteFault → IfSome (S.remaining source.old) (λ left. (text : List ℕ) × IsRunOf left text × WritesFront (T.contents sink.old) (T.contents sink.new) text) }
     ensures statuses { (result ≡ Status.Ok) ⊎ (result ≡ Status.WriteFault) ⊎ IsRefusalStatus result }
-    ensures refused { IfSome (S.remaining source.old) (λ left. (error : ScriptError) → IsRead left (Err error) → IsRefusedWith result) }
-    ensures served { IfSome (S.remaining source.old) (λ left. (script : script_value) → IsRead left (Ok script) → IsServedWith result) }
+    ensures refused { IfSome (S.remaining source.old) (λ left. (error : ScriptError) → IsRead left (Err error) → IsRefusedWith (S.faults source.old) (S.faults source.new) result) }
+    ensures served { IfSome (S.remaining source.old) (λ left. (script : script_value) → IsRead left (Ok script) → IsServedWith (S.faults source.old) (S.faults source.new) (T.faults sink.old) (T.faults sink.new) result) }
     ensures no_memory { result ≡ Status.NoMemory → LeavesLine (T.contents sink.old) (T.contents sink.new) (T.faults sink.old) (T.faults sink.new) (codes "no memory\n") }
 {
     one_reading();
@@ -287,8 +293,8 @@ pub fn run_cluster<S: Source, T: Sink>(
     ensures write_fault { result ≡ Status.WriteFault → HasRisen (T.faults sink.old) (T.faults sink.new) }
     ensures written { command_named (map string_bytes words.now) ≡ Some Command.Script → result ≡ Status.WriteFault → IfSome (S.remaining source.old) (λ left. (text : List ℕ) × IsRunOf left text × WritesFront (T.contents sink.old) (T.contents sink.new) text) }
     ensures statuses { (result ≡ Status.Ok) ⊎ (result ≡ Status.Usage) ⊎ (result ≡ Status.WriteFault) ⊎ IsRefusalStatus result }
-    ensures refused { IfSome (S.remaining source.old) (λ left. (error : ScriptError) → IsRead left (Err error) → command_named (map string_bytes words.now) ≡ Some Command.Script → IsRefusedWith result) }
-    ensures served { IfSome (S.remaining source.old) (λ left. (script : script_value) → IsRead left (Ok script) → command_named (map string_bytes words.now) ≡ Some Command.Script → IsServedWith result) }
+    ensures refused { IfSome (S.remaining source.old) (λ left. (error : ScriptError) → IsRead left (Err error) → command_named (map string_bytes words.now) ≡ Some Command.Script → IsRefusedWith (S.faults source.old) (S.faults source.new) result) }
+    ensures served { IfSome (S.remaining source.old) (λ left. (script : script_value) → IsRead left (Ok script) → command_named (map string_bytes words.now) ≡ Some Command.Script → IsServedWith (S.faults source.old) (S.faults source.new) (T.faults sink.old) (T.faults sink.new) result) }
     ensures no_memory { result ≡ Status.NoMemory → LeavesLine (T.contents sink.old) (T.contents sink.new) (T.faults sink.old) (T.faults sink.new) (codes "no memory\n") }
 {
     match command_of(words) {

@@ -1,6 +1,6 @@
 //! What the lines of a script ask of a cluster.
 
-ghost use Rattle.std.specs.Prelude.{◌≡◌, ℕ, List, map, IfOk, option_copied};
+ghost use Rattle.std.specs.Prelude.{◌≡◌, ◌≤◌, ℕ, List, map, IfOk, option_copied};
 ghost use Rattle.cql_statement.specs.declared.statement.Statement.{Statement as statement_value};
 ghost use Rattle.fault_script.specs.Script.{IsOneStatement, IsSaid};
 ghost use Rattle.cluster_program.specs.Requests.{table_setting, setting_of as setting_of_script, put_statement, get_statement, asked_of, AsksFor, AsksAt, IsEventOf};
@@ -9,7 +9,7 @@ use crate::statements::{statement_of_get, statement_of_put};
 use cluster_model::ClusterEvent;
 use cql_parser::{ParseError, parse};
 use cql_statement::Statement;
-use cs_base::{Items, Level, NodeId};
+use cs_base::{Items, Level, Micros, NodeId};
 use fault_script::{CqlRequest, GetRequest, PutRequest, Script, ScriptEvent};
 use peer_messages::{Ask, Plan, Setting, TableSetting, TableSettings};
 use schema_book::{Schema, Table};
@@ -17,6 +17,9 @@ use statement_binder::{BindError, bind};
 use statement_plan::{Fault, Feature};
 use statement_values::Params;
 use std::alloc::{AllocError, Global};
+
+/// A second, in microseconds.
+const SECOND: u64 = 1_000_000;
 
 fn table_settings(alloc: Global, tables: &[Table]) -> Result<TableSettings, AllocError>
     ensures { IfOk result (λ settings. settings ≡ map table_setting tables.now) }
@@ -32,11 +35,13 @@ fn table_settings(alloc: Global, tables: &[Table]) -> Result<TableSettings, Allo
 
 /// The cluster that a script runs on.
 pub fn setting_of(alloc: Global, script: &Script) -> Result<Setting, AllocError>
+    requires { script.now.expiry ≤ 100000 }
     ensures { IfOk result (λ setting. setting ≡ setting_of_script script.now) }
 {
     Ok(Setting {
         ring: script.ring,
         tables: table_settings(alloc, script.schema.tables())?,
+        expiry: Micros::new(script.expiry * SECOND),
     })
 }
 
@@ -163,5 +168,14 @@ pub fn event_of(
         )),
         ScriptEvent::Drop(place) => Ok(ClusterEvent::Lose(place.from, place.upto, place.number)),
         ScriptEvent::Settle(count) => Ok(ClusterEvent::Settle(*count)),
+        ScriptEvent::Clock(node, micros) => Ok(ClusterEvent::Clock(*node, *micros)),
+        ScriptEvent::Crash(node, outcome) => Ok(ClusterEvent::Crash(*node, *outcome)),
+        ScriptEvent::StopAt(node, call, outcome) => {
+            Ok(ClusterEvent::StopAt(*node, *call, *outcome))
+        }
+        ScriptEvent::FailAt(node, call) => Ok(ClusterEvent::FailAt(*node, *call)),
+        ScriptEvent::Restart(node) => Ok(ClusterEvent::Restart(*node)),
+        ScriptEvent::Flush(node) => Ok(ClusterEvent::Flush(*node)),
+        ScriptEvent::Merge(node) => Ok(ClusterEvent::Merge(*node)),
     }
 }

@@ -1,15 +1,21 @@
 //! The run of a script, in print.
 
-ghost use Rattle.std.specs.Prelude.{◌≡◌, None, All, IfOk, OnOk, option_copied, reverse};
+ghost use Rattle.std.specs.Prelude.{◌≡◌, ◌≤◌, None, All, length, IfOk, OnOk, IsTrue, option_copied, reverse};
 ghost use Rattle.fault_script.specs.Script.{IsSaid};
-ghost use Rattle.cluster_program.specs.Runs.{keyspace_after as keyspace_after_entries, IsRunInPrint, Plays};
+ghost use Rattle.chronicle_print.specs.Printed.{joined};
+ghost use Rattle.peer_messages.specs.declared.setting.Setting.{Setting as setting_value};
+ghost use Rattle.cluster_model.specs.Beginning.{AreFormatted};
+ghost use Rattle.cluster_model.specs.State.{KeepsOn};
+ghost use Rattle.cluster_program.specs.Runs.{newest as newest_of, keyspace_after as keyspace_after_entries, IsFresh, IsRunInPrint, Plays};
 
 use crate::requests::{event_of, setting_of};
 use chronicle_print::print_chronicle;
-use cluster_model::Cluster;
+use cluster_model::{Cluster, ClusterError};
 use cs_base::Text;
+use cs_store::MemStore;
 use fault_script::{Script, ScriptEvent};
-use peer_messages::Entry;
+use peer_messages::{Entries, Entry, Setting};
+use replica::MemReplica;
 use schema_book::Schema;
 use std::alloc::{AllocError, Global};
 
@@ -22,29 +28,69 @@ fn name_of(keyspace: &Option<Text>) -> Option<&str>
     }
 }
 
-/// The keyspace in use behind these entries: the one that the last entry names, or else the one before.
+/// The newest entry of a chronicle in pieces.
+fn newest(pieces: &[Entries]) -> Option<&Entry>
+    ensures { option_copied result ≡ newest_of (reverse (joined pieces.now)) }
+{
+    let mut left = pieces.len();
+    while left > 0 {
+        left -= 1;
+        if let Some(entry) = pieces[left].as_slice().last() {
+            return Some(entry);
+        }
+    }
+    None
+}
+
+/// The keyspace in use behind these entries: the one that the newest entry names, or else the one before.
 fn keyspace_after(
     alloc: Global,
     keyspace: Option<Text>,
-    chronicle: &[Entry],
+    chronicle: &[Entries],
 ) -> Result<Option<Text>, AllocError>
-    ensures { IfOk result (λ next. next ≡ keyspace_after_entries keyspace (reverse chronicle.now)) }
+    ensures { IfOk result (λ next. next ≡ keyspace_after_entries keyspace (reverse (joined chronicle.now))) }
 {
-    match chronicle.last() {
+    match newest(chronicle) {
         Some(Entry::Used(_, name)) => Ok(Some(name.copy(alloc)?)),
         _ => Ok(keyspace),
     }
 }
 
+/// A formatted store for each of so many nodes.
+fn formatted_stores(alloc: Global, nodes: u8) -> Result<Vec<MemStore>, AllocError>
+    ensures count { IfOk result (λ stores. length stores.items ≡ nodes) }
+    ensures formatted { IfOk result (λ stores. AreFormatted stores.items) }
+{
+    let mut stores = Vec::new(alloc);
+    for _ in 0..nodes {
+        stores.push(MemStore::formatted(alloc)?)?;
+    }
+    Ok(stores)
+}
+
+/// The cluster before the first event.
+fn begin<R: MemReplica>(alloc: Global, setting: Setting) -> Result<Cluster<R>, AllocError>
+    ensures { IfOk result (IsFresh setting) }
+{
+    let stores = formatted_stores(alloc, setting.ring.nodes())?;
+    match Cluster::new(alloc, setting, stores) {
+        Ok(cluster) => Ok(cluster),
+        Err(ClusterError::NoMemory) => Err(AllocError),
+        // a formatted store is not damaged
+        Err(ClusterError::Damaged(..)) => unreachable!(),
+    }
+}
+
 /// The cluster takes the events one after another.
-fn play(
+fn play<R: MemReplica>(
     alloc: Global,
     schema: &Schema,
-    cluster: &mut Cluster,
+    cluster: &mut Cluster<R>,
     events: &[ScriptEvent],
 ) -> Result<(), AllocError>
     requires { All IsSaid events.now }
-    ensures { OnOk result (Plays schema.now None cluster.old events.now cluster.new) }
+    ensures plays { OnOk result (Plays schema.now None cluster.old events.now cluster.new) }
+    ensures keeps { OnOk result (KeepsOn cluster.old cluster.new) }
 {
     let mut keyspace = None;
     for event in events {
@@ -56,11 +102,12 @@ fn play(
 }
 
 /// The printed chronicle of the run of a script.
-pub fn run(alloc: Global, script: &Script) -> Result<Vec<u8>, AllocError>
-    requires { All IsSaid script.now.events }
+pub fn run<R: MemReplica>(alloc: Global, script: &Script) -> Result<Vec<u8>, AllocError>
+    requires said { All IsSaid script.now.events }
+    requires expiry { script.now.expiry ≤ 100000 }
     ensures { IfOk result (λ text. IsRunInPrint script.now text.items) }
 {
-    let mut cluster = Cluster::new(alloc, setting_of(alloc, script)?)?;
+    let mut cluster = begin::<R>(alloc, setting_of(alloc, script)?)?;
     play(
         alloc,
         &script.schema,

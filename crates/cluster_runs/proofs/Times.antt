@@ -1,6 +1,7 @@
--- A node's time does not fall.
-use Rattle.std.proofs.Common.{◌≡◌, ℕ, inl, inr, ◌≤◌, Option, Some, None, refl, sym, ap, subst, ◌∙◌, arith, Contains}
-use Rattle.std.specs.Prelude.{slice_get, slice_set}
+-- A node's time does not fall, not at a load either: it never passes the ceiling that the node keeps.
+use Rattle.std.proofs.Common.{◌≡◌, ℕ, inl, inr, ◌≤◌, ◌<◌, ◌+◌, Bool, true, false, Option, Some, None, refl, sym, ap, subst, ◌∙◌, arith, Contains}
+use Rattle.std.specs.Prelude.{slice_get, slice_set, nat_lt, if◌then◌else◌, MatchBool, length}
+use Rattle.std.proofs.lemmas.Bool.{ltb-false}
 use Rattle.cs_base.specs.declared.ids.ReqId.{ReqId}
 use Rattle.cs_base.specs.declared.level.Level.{Level}
 use Rattle.peer_messages.specs.declared.event.Plan.{Plan}
@@ -9,64 +10,136 @@ use Rattle.peer_messages.specs.declared.message.Body.{Body}
 use Rattle.peer_messages.specs.declared.message.Body.TheVariants.{Write, WriteAck, Read, ReadReply}
 use Rattle.peer_messages.specs.declared.chronicle.Refusal.{Refusal}
 use Rattle.peer_messages.specs.declared.setting.Setting.{Setting}
-use Rattle.node_steps.specs.State.{NodeState}
-use Rattle.node_steps.specs.Effects.{Effects}
+use Rattle.node_steps.specs.State.{NodeState, loaded, fresh_node}
+use Rattle.node_steps.specs.Effects.{Effects, nothing}
 use Rattle.node_steps.specs.Replicas.{Asker}
 use Rattle.node_steps.specs.Requests.{refusal_of, Begins, BeginsOrRefuses}
-use Rattle.node_steps.specs.Acts.{Act, Rises, Hears, Asks, Marks, Deed, Does, HearsBody}
-use Rattle.cluster_runs.specs.Trace.{Scene, Trace, begun, moved, free}
+use Rattle.node_steps.specs.Acts.{Act, Rises, Hears, Asks, Marks, Incoming, Deed, Does, HearsBody, ceiling_after, is_old, asker_of, request_at}
+use Rattle.cluster_runs.specs.Trace.{Scene, Trace, begun, moved, wakes, forgets, free}
 use Rattle.cs_base.proofs.Slots.{get_set}
+use Rattle.cluster_runs.proofs.Lists.{all_same}
 use Rattle.cs_base.proofs.Members.{contains_nil, contains_cases}
 
-time_of : NodeState → ℕ
-time_of s = s.time
+-- what a node's step rose to is not above its time, which stays below the ceiling
+pub record HasRisen (s : NodeState) : Type 0 where
+  pub risen : s.risen ≤ s.time
+  pub under : s.time ≤ s.ceiling
 
-same_time : (s s' r : NodeState) → s' ≡ r → r.time ≡ s.time → s.time ≤ s'.time
-same_time s s' r is same = let e : s'.time ≡ s.time = ap (λ (x : NodeState). x.time) is ∙ same in omega arith
+-- time goes on
+pub record Later (s s' : NodeState) : Type 0 where
+  pub risen : s.risen ≤ s.time → s.risen ≤ s'.risen
+  pub below : s.risen ≤ s.time → s'.risen ≤ s'.time
+  pub under : s.time ≤ s.ceiling → s'.time ≤ s'.ceiling
 
-hears_time : (c : Setting) (a : Asker) (b : Body) (s : NodeState) (o : Effects) (s' : NodeState) → HearsBody c a b s o s' → s.time ≤ s'.time
-hears_time c a (Write m) s o s' h = same_time s s' _ h.3 refl
-hears_time c a WriteAck s o s' h = same_time s s' _ h.3 refl
-hears_time c a (Read q) s o s' h = same_time s s' _ h.3 refl
-hears_time c a (ReadReply content) s o s' h = same_time s s' _ h.3 refl
+same_times : (s s' r : NodeState) → s' ≡ r → r.time ≡ s.time → r.risen ≡ s.risen → r.ceiling ≡ s.ceiling → Later s s'
+same_times s s' r is time risen ceiling =
+    let e : s'.time ≡ s.time = ap (λ (x : NodeState). x.time) is ∙ time in
+    let g : s'.risen ≡ s.risen = ap (λ (x : NodeState). x.risen) is ∙ risen in
+    let f : s'.ceiling ≡ s.ceiling = ap (λ (x : NodeState). x.ceiling) is ∙ ceiling in
+    record { risen = λ h. omega (arith, g); below = λ h. omega (arith, e, g, h); under = λ h. omega (arith, e, f, h) }
 
-begins_time : (c : Setting) (id : ReqId) (p : Plan) (l : Level) (s : NodeState) (o : Effects) (s' : NodeState) → Begins c id p l s o s' → s.time ≤ s'.time
-begins_time c id (plan.Write d) l s o s' h = same_time s s' _ h.1 refl
-begins_time c id (plan.Read q columns) l s o s' h = same_time s s' _ h.1 refl
-begins_time c id (plan.Use keyspace) l s o s' h = same_time s s' _ h.1 refl
-begins_time c id (plan.Invalid fault) l s o s' h = absurd h
+above_case : (b : Bool) (ceiling time : ℕ) → nat_lt ceiling time ≡ b → time ≤ (if b then time + 1000000 else ceiling)
+above_case true ceiling time test = omega arith
+above_case false ceiling time test = ltb-false ceiling time test
 
-asks_time : (c : Setting) (id : ReqId) (p : Plan) (l : Level) (r : Option Refusal) (s : NodeState) (o : Effects) (s' : NodeState) → BeginsOrRefuses c id p l r s o s' → s.time ≤ s'.time
-asks_time c id p l None s o s' h = begins_time c id p l s o s' h
-asks_time c id p l (Some r) s o s' h = same_time s s' _ h.1 refl
+above : (ceiling time : ℕ) → time ≤ ceiling_after ceiling time
+above ceiling time = above_case (nat_lt ceiling time) ceiling time refl
 
-pub does_time : (c : Setting) (me : ℕ) (s : NodeState) (a : Act) (o : Effects) (s' : NodeState) → Does c me s a o s' → s.time ≤ s'.time
-does_time c me s (Rises time) o s' h = let e : s'.time ≡ time = ap (λ (x : NodeState). x.time) h.2 in let later = h.0 in omega arith
-does_time c me s (Hears m) o s' h = hears_time c (record { from = m.from; request = m.request }) m.body s o s' h
-does_time c me s (Asks ask) o s' h = asks_time c (record { node = me; time = s.time }) ask.plan ask.level (refusal_of c s.down ask.plan ask.level) s o s' h
-does_time c me s (Marks peer up) o s' h = same_time s s' _ h.1 refl
+rises_later : (s s' : NodeState) (time : ℕ) → s.time < time → s' ≡ record s { time = time; risen = time; ceiling = ceiling_after s.ceiling time } → Later s s'
+rises_later s s' time later is =
+    let e : s'.time ≡ time = ap (λ (x : NodeState). x.time) is in
+    let g : s'.risen ≡ time = ap (λ (x : NodeState). x.risen) is in
+    let f : s'.ceiling ≡ ceiling_after s.ceiling time = ap (λ (x : NodeState). x.ceiling) is in
+    record {
+      risen = λ h. omega (arith, g, later, h);
+      below = λ h. omega (arith, e, g);
+      under = λ h. subst (λ (n : ℕ). n ≤ s'.ceiling) (sym e) (subst (λ (n : ℕ). time ≤ n) (sym f) (above s.ceiling time));
+    }
 
--- each move was made at a time that its node has
-abbrev pub ArePassed : Scene → Type 0
-ArePassed w = (d : Deed) → Contains w.past d → (s : NodeState) → slice_get w.nodes d.node ≡ Some s → d.before.time ≤ s.time
+hears_later : (c : Setting) (a : Asker) (b : Body) (s : NodeState) (o : Effects) (s' : NodeState) → HearsBody c a b s o s' → Later s s'
+hears_later c a (Write m) s o s' h = same_times s s' _ h.3 refl refl refl
+hears_later c a WriteAck s o s' h = same_times s s' _ h.3 refl refl refl
+hears_later c a (Read q) s o s' h = same_times s s' _ h.3 refl refl refl
+hears_later c a (ReadReply content) s o s' h = same_times s s' _ h.3 refl refl refl
 
-pub passed : (c : Setting) (w : Scene) → Trace c w → ArePassed w
-passed c _ begun d h s at = absurd (contains_nil d h)
-passed c _ (free w e t i) d h s at = passed c w t d h s at
-passed c _ (moved w w' k x t m) d h s at =
-    let nodes : slice_get (slice_set w.nodes k x.after) d.node ≡ Some s = subst (λ (v : Scene). slice_get v.nodes d.node ≡ Some s) m.scene at in
-    let later = does_time c k x.before x.act x.effects x.after m.does in
-    elim (contains_cases x w.past d (subst (λ (v : Scene). Contains v.past d) m.scene h)) [
-      | inl here ↦
-          elim (get_set w.nodes k x.after d.node s nodes) [
-            | inl (same, is) ↦ subst (λ (y : Deed). y.before.time ≤ s.time) here (subst (λ (r : NodeState). x.before.time ≤ r.time) (sym is) later)
-            | inr (other, before) ↦ absurd (other (ap (λ (y : Deed). y.node) (sym here) ∙ m.mine))
-          ]
-      | inr past ↦
-          elim (get_set w.nodes k x.after d.node s nodes) [
-            | inl (same, is) ↦
-                let p = passed c w t d past x.before (subst (λ (j : ℕ). slice_get w.nodes j ≡ Some x.before) (sym same) m.at) in
-                subst (λ (r : NodeState). d.before.time ≤ r.time) (sym is) (omega (arith, p, later))
-            | inr (other, before) ↦ passed c w t d past s before
-          ]
-    ]
+comes_later : (c : Setting) (m : Incoming) (old : Bool) (s : NodeState) (o : Effects) (s' : NodeState) → MatchBool old ((o ≡ nothing) × (s' ≡ s)) (HearsBody c (asker_of m) m.body s o s') → Later s s'
+comes_later c m true s o s' h = same_times s s' s h.1 refl refl refl
+comes_later c m false s o s' h = hears_later c (asker_of m) m.body s o s' h
+
+begins_later : (c : Setting) (id : ReqId) (p : Plan) (l : Level) (s : NodeState) (o : Effects) (s' : NodeState) → Begins c id p l s o s' → Later s s'
+begins_later c id (plan.Write d) l s o s' h = same_times s s' _ h.1 refl refl refl
+begins_later c id (plan.Read q columns) l s o s' h = same_times s s' _ h.1 refl refl refl
+begins_later c id (plan.Use keyspace) l s o s' h = same_times s s' _ h.1 refl refl refl
+begins_later c id (plan.Invalid fault) l s o s' h = absurd h
+
+asks_later : (c : Setting) (id : ReqId) (p : Plan) (l : Level) (r : Option Refusal) (s : NodeState) (o : Effects) (s' : NodeState) → BeginsOrRefuses c id p l r s o s' → Later s s'
+asks_later c id p l None s o s' h = begins_later c id p l s o s' h
+asks_later c id p l (Some r) s o s' h = same_times s s' _ h.1 refl refl refl
+
+pub does_later : (c : Setting) (me : ℕ) (s : NodeState) (a : Act) (o : Effects) (s' : NodeState) → Does c me s a o s' → Later s s'
+does_later c me s (Rises time) o s' h = rises_later s s' time h.0 h.2
+does_later c me s (Hears m) o s' h = comes_later c m (is_old c s.risen m.born) s o s' h
+does_later c me s (Asks ask) o s' h = asks_later c (request_at me s.risen) ask.plan ask.level (refusal_of c s (request_at me s.risen) ask.plan ask.level) s o s' h
+does_later c me s (Marks peer up) o s' h = same_times s s' _ h.1 refl refl refl
+
+pub record AreTimely (w : Scene) : Type 0 where
+  -- each move was made in a step that rose to a time that its node's last step rose to too
+  pub passed : (d : Deed) → Contains w.past d → (s : NodeState) → slice_get w.nodes d.node ≡ Some s → d.before.risen ≤ s.risen
+  pub risen : (k : ℕ) (s : NodeState) → slice_get w.nodes k ≡ Some s → HasRisen s
+
+on_risen : (s s' : NodeState) → Later s s' → HasRisen s → HasRisen s'
+on_risen s s' later h = record { risen = later.below h.risen; under = later.under h.under }
+
+pub timely : (c : Setting) (w : Scene) → Trace c w → AreTimely w
+timely c _ begun = record {
+  passed = λ d h s at. absurd (contains_nil d h);
+  risen = λ k s at. subst (λ (x : NodeState). HasRisen x) (all_same (length c.ring) fresh_node k s at) (record { risen = omega arith; under = omega arith });
+}
+timely c _ (free w e t i) = record { passed = (timely c w t).passed; risen = (timely c w t).risen }
+timely c _ (wakes w k t l) = record { passed = (timely c w t).passed; risen = (timely c w t).risen }
+timely c _ (forgets w k r found t l there kept) =
+    let before = timely c w t in
+    let has = before.risen k r there in
+    let below = has.risen in
+    let under = has.under in
+    let ceiling = kept.ceiling in
+    record {
+      passed = λ d h s at. elim (get_set w.nodes k (loaded found) d.node s at) [
+        | inl (same, is) ↦
+            let p = before.passed d h r (subst (λ (j : ℕ). slice_get w.nodes j ≡ Some r) (sym same) there) in
+            subst (λ (x : NodeState). d.before.risen ≤ x.risen) (sym is) (omega (arith, p, below, under, ceiling))
+        | inr (other, old) ↦ before.passed d h s old
+      ];
+      risen = λ j s at. elim (get_set w.nodes k (loaded found) j s at) [
+        | inl (same, is) ↦ subst (λ (x : NodeState). HasRisen x) (sym is) (record { risen = omega arith; under = omega arith })
+        | inr (other, old) ↦ before.risen j s old
+      ];
+    }
+timely c _ (moved w w' k lost x t m) =
+    let before = timely c w t in
+    let later = does_later c k x.before x.act x.effects x.after m.does in
+    let has = before.risen k x.before m.at in
+    let ahead = later.risen has.risen in
+    record {
+      passed = λ d h s at.
+          let nodes : slice_get (slice_set w.nodes k x.after) d.node ≡ Some s = subst (λ (v : Scene). slice_get v.nodes d.node ≡ Some s) m.scene at in
+          elim (contains_cases x w.past d (subst (λ (v : Scene). Contains v.past d) m.scene h)) [
+            | inl here ↦
+                elim (get_set w.nodes k x.after d.node s nodes) [
+                  | inl (same, is) ↦ subst (λ (y : Deed). y.before.risen ≤ s.risen) here (subst (λ (r : NodeState). x.before.risen ≤ r.risen) (sym is) ahead)
+                  | inr (other, old) ↦ absurd (other (ap (λ (y : Deed). y.node) (sym here) ∙ m.mine))
+                ]
+            | inr past ↦
+                elim (get_set w.nodes k x.after d.node s nodes) [
+                  | inl (same, is) ↦
+                      let p = before.passed d past x.before (subst (λ (j : ℕ). slice_get w.nodes j ≡ Some x.before) (sym same) m.at) in
+                      subst (λ (r : NodeState). d.before.risen ≤ r.risen) (sym is) (omega (arith, p, ahead))
+                  | inr (other, old) ↦ before.passed d past s old
+                ]
+          ];
+      risen = λ j s at.
+          elim (get_set w.nodes k x.after j s (subst (λ (v : Scene). slice_get v.nodes j ≡ Some s) m.scene at)) [
+            | inl (same, is) ↦ subst (λ (r : NodeState). HasRisen r) (sym is) (on_risen x.before x.after later has)
+            | inr (other, old) ↦ before.risen j s old
+          ];
+    }

@@ -1,100 +1,90 @@
 //! Three nodes, each a replica, and what their network does with messages.
 
-use changes::{Bound, Draft, DraftMutation, Partition, Place, Query};
-use cluster_model::{Cluster, ClusterEvent};
-use cs_base::{Bytes, Items, Level, NodeId};
-use peer_messages::{Ask, Entry, Plan, Setting, TableSetting};
-use statement_plan::Columns;
+ghost use Rattle.std.specs.Prelude.{◌≡◌, length, vec_len};
+
+use crate::plans::{read, write, write_bytes};
+use crate::site::{id, setting, store_of, store_with};
+use cluster_model::{Cluster, ClusterError, ClusterEvent};
+use cs_base::Level;
+use cs_store::MemStore;
+use list_replica::MemListReplica;
+use peer_messages::{Ask, Entries, Entry, Invalid, Plan, Refusal, Setting};
 use std::alloc::{AllocError, Global};
+use std::mem;
 use std::test::Fail;
-use token_ring::Ring;
 
-fn setting(alloc: Global) -> Result<Setting, Fail> {
-    let mut tables = Items::new(alloc);
-    tables.push(TableSetting { factor: 3 })?;
-    Ok(Setting {
-        ring: Ring::new(&[-3, 0, 3])?,
-        tables,
-    })
+/// A cluster over lists in memory. That it is one stands here alone: a proof over a type of a replica of its own costs much
+/// more.
+#[derive(Drop)]
+struct Tested {
+    cluster: Cluster<MemListReplica>,
 }
 
-fn id(number: u8) -> Result<NodeId, Fail> {
-    Ok(NodeId::new(number).ok_or("no such node")?)
+impl Tested {
+    fn new(alloc: Global, setting: Setting, stores: Vec<MemStore>) -> Result<Tested, ClusterError>
+        requires { vec_len stores ≡ length setting.ring }
+    {
+        Ok(Tested {
+            cluster: Cluster::new(alloc, setting, stores)?,
+        })
+    }
+
+    fn step(&mut self, alloc: Global, event: ClusterEvent) -> Result<(), AllocError> {
+        self.cluster.step(alloc, event)
+    }
+
+    fn chronicle(&self) -> &[Entries] {
+        self.cluster.chronicle()
+    }
 }
 
-fn partition(alloc: Global) -> Result<Partition, AllocError> {
-    Ok(Partition {
-        table: 0,
-        token: 1,
-        key: Bytes::from_slice(alloc, b"k")?,
-    })
-}
-
-fn draft(alloc: Global) -> Result<Draft, AllocError> {
-    Ok(Draft {
-        place: Place::Cell(Bytes::from_slice(alloc, b"a")?, 2),
-        value: Some(Bytes::from_slice(alloc, b"x")?),
-        timestamp: Some(5),
-    })
-}
-
-fn write(alloc: Global) -> Result<Plan, AllocError> {
-    let mut changes = Items::new(alloc);
-    changes.push(draft(alloc)?)?;
-    let partition = partition(alloc)?;
-    Ok(Plan::Write(DraftMutation { partition, changes }))
-}
-
-fn bound(alloc: Global, after: bool) -> Result<Bound, AllocError> {
-    Ok(Bound {
-        at: Bytes::from_slice(alloc, b"")?,
-        after,
-    })
-}
-
-fn read(alloc: Global) -> Result<Plan, AllocError> {
-    let query = Query {
-        partition: partition(alloc)?,
-        from: bound(alloc, false)?,
-        upto: bound(alloc, true)?,
-        reversed: false,
-        limit: 9,
-    };
-    Ok(Plan::Read(query, Columns::Count))
+fn cluster_of_three(alloc: Global) -> Result<Tested, Fail> {
+    let stores = vec![in alloc;
+        MemStore::formatted(alloc)?,
+        MemStore::formatted(alloc)?,
+        MemStore::formatted(alloc)?,
+    ]?;
+    Ok(Tested::new(alloc, setting(alloc, &[-3, 0, 3], 3)?, stores)?)
 }
 
 /// A client of the node asks this at QUORUM.
-fn ask(alloc: Global, cluster: &mut Cluster, node: u8, plan: Plan) -> Result<(), Fail> {
+fn ask(alloc: Global, cluster: &mut Tested, node: u8, plan: Plan) -> Result<(), Fail> {
     let level = Level::Quorum;
     cluster.step(alloc, ClusterEvent::Ask(id(node)?, Ask { plan, level }))?;
     Ok(())
 }
 
-fn deliver(alloc: Global, cluster: &mut Cluster, from: u8, upto: u8) -> Result<(), Fail> {
+fn deliver(alloc: Global, cluster: &mut Tested, from: u8, upto: u8) -> Result<(), Fail> {
     cluster.step(alloc, ClusterEvent::Deliver(id(from)?, id(upto)?, 1))?;
     Ok(())
 }
 
-fn lose(alloc: Global, cluster: &mut Cluster, from: u8, upto: u8) -> Result<(), Fail> {
+fn lose(alloc: Global, cluster: &mut Tested, from: u8, upto: u8) -> Result<(), Fail> {
     cluster.step(alloc, ClusterEvent::Lose(id(from)?, id(upto)?, 1))?;
     Ok(())
 }
 
 /// How many writes were acknowledged.
-fn acked(cluster: &Cluster) -> usize {
-    cluster
-        .chronicle()
-        .iter()
-        .filter(|entry| matches!(entry, Entry::Acked(..)))
-        .count()
+fn acked(cluster: &Tested) -> usize {
+    let mut count: usize = 0;
+    for piece in cluster.chronicle() {
+        for entry in piece.as_slice() {
+            if matches!(entry, Entry::Acked(..)) {
+                count = count.saturating_add(1);
+            }
+        }
+    }
+    count
 }
 
 /// How many rows the reads showed.
-fn shown(cluster: &Cluster) -> usize {
+fn shown(cluster: &Tested) -> usize {
     let mut count: usize = 0;
-    for entry in cluster.chronicle() {
-        if let Entry::Rows(_, rows, ..) = entry {
-            count = count.saturating_add(rows.as_slice().len());
+    for piece in cluster.chronicle() {
+        for entry in piece.as_slice() {
+            if let Entry::Rows(_, rows, ..) = entry {
+                count = count.saturating_add(rows.as_slice().len());
+            }
         }
     }
     count
@@ -103,8 +93,8 @@ fn shown(cluster: &Cluster) -> usize {
 #[test]
 fn delivers_by_number_and_again(rt: HostRuntime) -> Result<(), Fail> {
     let alloc = rt.alloc();
-    let mut cluster = Cluster::new(alloc, setting(alloc)?)?;
-    ask(alloc, &mut cluster, 0, write(alloc)?)?;
+    let mut cluster = cluster_of_three(alloc)?;
+    ask(alloc, &mut cluster, 0, write(alloc, b"x", 5)?)?;
     deliver(alloc, &mut cluster, 1, 0)?;
     assert_eq!(rt; acked(&cluster), 0);
     deliver(alloc, &mut cluster, 0, 1)?;
@@ -118,8 +108,8 @@ fn delivers_by_number_and_again(rt: HostRuntime) -> Result<(), Fail> {
 #[test]
 fn settles_what_is_not_lost(rt: HostRuntime) -> Result<(), Fail> {
     let alloc = rt.alloc();
-    let mut cluster = Cluster::new(alloc, setting(alloc)?)?;
-    ask(alloc, &mut cluster, 0, write(alloc)?)?;
+    let mut cluster = cluster_of_three(alloc)?;
+    ask(alloc, &mut cluster, 0, write(alloc, b"x", 5)?)?;
     lose(alloc, &mut cluster, 0, 1)?;
     cluster.step(alloc, ClusterEvent::Settle(1))?;
     assert_eq!(rt; acked(&cluster), 0);
@@ -128,5 +118,57 @@ fn settles_what_is_not_lost(rt: HostRuntime) -> Result<(), Fail> {
     ask(alloc, &mut cluster, 1, read(alloc)?)?;
     cluster.step(alloc, ClusterEvent::Settle(9))?;
     assert_eq!(rt; shown(&cluster), 1);
+    Ok(())
+}
+
+/// How the newest request was turned away, if it was.
+fn turned(cluster: &Tested) -> Option<Refusal> {
+    let piece = cluster.chronicle().last()?;
+    match piece.as_slice().last()? {
+        Entry::Turned(_, refusal) => Some(*refusal),
+        _ => None,
+    }
+}
+
+// The log of 64 MiB has room for one more entry, of a write of one byte and the first ceiling. In row a it takes the place of
+// the long value, beside which there is no room in the partition.
+#[test]
+fn turns_away_what_has_no_room(rt: HostRuntime) -> Result<(), Fail> {
+    let alloc = rt.alloc();
+    let stores = vec![in alloc; store_with(alloc, (1 << 26) - 159)?]?;
+    let mut cluster = Tested::new(alloc, setting(alloc, &[0], 1)?, stores)?;
+    for (row, value, want) in [
+        (
+            b"b",
+            b"x".as_slice(),
+            Some(Refusal::Invalid(Invalid::PartitionTooLarge)),
+        ),
+        (b"a", b"xy".as_slice(), Some(Refusal::Overloaded)),
+        (b"a", b"x".as_slice(), None),
+        (b"a", b"".as_slice(), Some(Refusal::Overloaded)),
+    ] {
+        let value = Vec::from_slice(alloc, value)?;
+        ask(alloc, &mut cluster, 0, write_bytes(alloc, row, value, 5)?)?;
+        assert!(rt; turned(&cluster) == want);
+    }
+    assert_eq!(rt; acked(&cluster), 1);
+    // A long list is let go of item by item, which takes as long as the rest.
+    mem::forget(cluster);
+    Ok(())
+}
+
+#[test]
+fn begins_on_no_damaged_store(rt: HostRuntime) -> Result<(), Fail> {
+    let alloc = rt.alloc();
+    let setting = setting(alloc, &[-3, 0, 3], 3)?;
+    // An entry of two bytes, of which one is there.
+    let damaged = store_of(alloc, b"\xc5\0\0\0\x02\0")?;
+    let stores = vec![in alloc;
+        MemStore::formatted(alloc)?,
+        damaged,
+        MemStore::formatted(alloc)?,
+    ]?;
+    let error = Tested::new(alloc, setting, stores).err();
+    assert_eq!(rt; error, Some(ClusterError::Damaged(id(1)?, 0, 1)));
     Ok(())
 }

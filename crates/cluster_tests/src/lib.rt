@@ -1,15 +1,15 @@
-//! Tests of nodes and of what they tell, which need only the public side of the crates.
+//! Tests of nodes and clusters, which need only the public side of the crates.
 #![tactic(auto)]
 
 #[cfg(test)]
 mod clusters;
 #[cfg(test)]
-mod messages;
+mod limits;
 #[cfg(test)]
 mod nodes;
 #[cfg(test)]
-mod printing;
+mod plans;
 #[cfg(test)]
-mod reads;
+mod site;
 #[cfg(test)]
-mod writes;
+mod told;

@@ -1,97 +1,25 @@
 //! Three nodes, each a replica, stepped by hand: what is lost, repeated and reordered, and each refusal.
 
-use changes::{Bound, Draft, DraftMutation, Partition, Place, Query, ShownRow};
-use cs_base::{Bytes, Items, Level, Micros, NodeId, ReqId, Text};
-use node_core::{Node, StepError};
-use peer_messages::{
-    Ask, Body, Entry, Event, Invalid, Message, Messages, Outputs, Plan, Refusal, Setting,
-    TableSetting, What,
-};
-use statement_plan::{Columns, Fault};
-use std::alloc::{AllocError, Global};
+use crate::plans::{read, write};
+use crate::site::{Tested, id, setting};
+use crate::told::{Told, last_told};
+use cs_base::{Level, Micros, NodeId, ReqId, Text};
+use cs_store::{MemStore, Outcome};
+use peer_messages::{Ask, Body, Invalid, Message, Messages, Outputs, Plan, Refusal, What};
+use statement_plan::Fault;
+use std::alloc::Global;
 use std::test::Fail;
-use token_ring::Ring;
-
-/// What a step told last.
-#[derive(Clone, Copy)]
-enum Told {
-    Nothing,
-    Begun,
-    /// By so many replicas.
-    Acked(usize),
-    /// The first byte of the only value, if a row is shown.
-    Shown(Option<u8>),
-    Refused(Refusal),
-    Used,
-    Other,
-}
-
-fn setting(alloc: Global, tokens: &[i64], factor: u8) -> Result<Setting, Fail> {
-    let mut tables = Items::new(alloc);
-    tables.push(TableSetting { factor })?;
-    Ok(Setting {
-        ring: Ring::new(tokens)?,
-        tables,
-    })
-}
-
-fn id(number: u8) -> Result<NodeId, Fail> {
-    Ok(NodeId::new(number).ok_or("no such node")?)
-}
 
 /// One of three nodes.
-fn node(alloc: Global, number: u8) -> Result<Node, Fail> {
+fn node(alloc: Global, number: u8) -> Result<Tested, Fail> {
     let setting = setting(alloc, &[-3, 0, 3], 3)?;
-    Ok(Node::load(alloc, id(number)?, setting))
+    Tested::load(alloc, id(number)?, setting, MemStore::formatted(alloc)?)
 }
 
 /// A node that is the only one.
-fn lone_node(alloc: Global) -> Result<Node, Fail> {
+fn lone_node(alloc: Global) -> Result<Tested, Fail> {
     let setting = setting(alloc, &[0], 1)?;
-    Ok(Node::load(alloc, NodeId::FIRST, setting))
-}
-
-fn partition(alloc: Global) -> Result<Partition, AllocError> {
-    Ok(Partition {
-        table: 0,
-        token: 1,
-        key: Bytes::from_slice(alloc, b"k")?,
-    })
-}
-
-fn draft(alloc: Global, value: &[u8], timestamp: i64) -> Result<Draft, AllocError> {
-    Ok(Draft {
-        place: Place::Cell(Bytes::from_slice(alloc, b"a")?, 2),
-        value: Some(Bytes::from_slice(alloc, value)?),
-        timestamp: Some(timestamp),
-    })
-}
-
-/// A write of the value to the one cell of these tests.
-fn write(alloc: Global, value: &[u8], timestamp: i64) -> Result<Plan, AllocError> {
-    let mut changes = Items::new(alloc);
-    changes.push(draft(alloc, value, timestamp)?)?;
-    let partition = partition(alloc)?;
-    Ok(Plan::Write(DraftMutation { partition, changes }))
-}
-
-fn bound(alloc: Global, after: bool) -> Result<Bound, AllocError> {
-    Ok(Bound {
-        at: Bytes::from_slice(alloc, b"")?,
-        after,
-    })
-}
-
-/// A read of the whole partition.
-fn read(alloc: Global) -> Result<Plan, AllocError> {
-    let query = Query {
-        partition: partition(alloc)?,
-        from: bound(alloc, false)?,
-        upto: bound(alloc, true)?,
-        reversed: false,
-        limit: 10,
-    };
-    Ok(Plan::Read(query, Columns::Count))
+    Tested::load(alloc, NodeId::FIRST, setting, MemStore::formatted(alloc)?)
 }
 
 fn acknowledgement(from: u8, request: ReqId) -> Result<Message, Fail> {
@@ -106,9 +34,11 @@ fn acknowledgement(from: u8, request: ReqId) -> Result<Message, Fail> {
 }
 
 /// Takes what comes, with a clock that stands at 0.
-fn take(alloc: Global, node: &mut Node, what: What) -> Result<Outputs, StepError> {
-    let clock = Micros::new(0);
-    node.step(alloc, Event { clock, what })
+fn take(alloc: Global, node: &mut Tested, what: What) -> Result<Outputs, Fail> {
+    match node.step(alloc, 0, what) {
+        Ok(outputs) => Ok(outputs),
+        Err(_) => Err("no step".into()),
+    }
 }
 
 fn message_to(upto: u8, messages: Messages) -> Option<Message> {
@@ -123,7 +53,7 @@ fn message_to(upto: u8, messages: Messages) -> Option<Message> {
 /// The message that goes to this node, when a client asks. Those to the other nodes are lost.
 fn asked(
     alloc: Global,
-    node: &mut Node,
+    node: &mut Tested,
     plan: Plan,
     level: Level,
     upto: u8,
@@ -133,38 +63,35 @@ fn asked(
 }
 
 /// The message that goes back to this node, when a message comes.
-fn replied(alloc: Global, node: &mut Node, message: Message, upto: u8) -> Result<Message, Fail> {
+fn replied(alloc: Global, node: &mut Tested, message: Message, upto: u8) -> Result<Message, Fail> {
     let outputs = take(alloc, node, What::Deliver(message))?;
     Ok(message_to(upto, outputs.sends).ok_or("no message to this node")?)
 }
 
-fn value_of(rows: &[ShownRow]) -> Option<u8> {
-    let cell = rows.first()?.cells.as_slice().first()?;
-    Some(*cell.value.as_slice().first()?)
-}
-
-fn last_told(outputs: &Outputs) -> Told {
-    match outputs.entries.as_slice().last() {
-        None => Told::Nothing,
-        Some(Entry::Submitted(_, _) | Entry::Began(_, _, _, _)) => Told::Begun,
-        Some(Entry::Acked(_, _, heard)) => Told::Acked(heard.as_slice().len()),
-        Some(Entry::Rows(_, rows, _, _)) => Told::Shown(value_of(rows.as_slice())),
-        Some(Entry::Refused(_, refusal)) => Told::Refused(*refusal),
-        Some(Entry::Used(_, _)) => Told::Used,
-        Some(_) => Told::Other,
-    }
-}
-
 /// What is told when a client asks. All messages are lost.
-fn told_at(alloc: Global, node: &mut Node, plan: Plan, level: Level) -> Result<Told, Fail> {
+fn told_at(alloc: Global, node: &mut Tested, plan: Plan, level: Level) -> Result<Told, Fail> {
     let outputs = take(alloc, node, What::Client(Ask { plan, level }))?;
     Ok(last_told(&outputs))
 }
 
 /// What is told when a message comes.
-fn told_of(alloc: Global, node: &mut Node, message: Message) -> Result<Told, Fail> {
+fn told_of(alloc: Global, node: &mut Tested, message: Message) -> Result<Told, Fail> {
     let outputs = take(alloc, node, What::Deliver(message))?;
     Ok(last_told(&outputs))
+}
+
+/// What a write at QUORUM is told at its second acknowledgement, and at the same one again.
+fn told_at_a_quorum(
+    alloc: Global,
+    first: &mut Tested,
+    second: &mut Tested,
+) -> Result<[Told; 2], Fail> {
+    let message = asked(alloc, first, write(alloc, b"x", 5)?, Level::Quorum, 1)?;
+    let request = message.request;
+    let back = replied(alloc, second, message, 0)?;
+    let told = told_of(alloc, first, back)?;
+    let again = told_of(alloc, first, acknowledgement(1, request)?)?;
+    Ok([told, again])
 }
 
 #[test]
@@ -172,28 +99,53 @@ fn a_quorum_acknowledges_a_write(rt: HostRuntime) -> Result<(), Fail> {
     let alloc = rt.alloc();
     let mut first = node(alloc, 0)?;
     let mut second = node(alloc, 1)?;
-    let message = asked(alloc, &mut first, write(alloc, b"x", 5)?, Level::Quorum, 1)?;
-    let request = message.request;
-    let back = replied(alloc, &mut second, message, 0)?;
-    assert!(rt; matches!(told_of(alloc, &mut first, back)?, Told::Acked(2)));
-    let again = acknowledgement(1, request)?;
-    assert!(rt; matches!(told_of(alloc, &mut first, again)?, Told::Nothing));
+    let told = told_at_a_quorum(alloc, &mut first, &mut second)?;
+    assert_eq!(rt; told, [Told::Acked(2), Told::Nothing]);
     Ok(())
+}
+
+/// The id of a write at ALL, whose messages are lost.
+fn written_at_all(alloc: Global, node: &mut Tested) -> Result<ReqId, Fail> {
+    let message = asked(alloc, node, write(alloc, b"x", 5)?, Level::All, 1)?;
+    Ok(message.request)
+}
+
+/// What is told when this node acknowledges a request.
+fn told_by_one(alloc: Global, node: &mut Tested, from: u8, request: ReqId) -> Result<Told, Fail> {
+    let message = acknowledgement(from, request)?;
+    told_of(alloc, node, message)
 }
 
 #[test]
 fn distinct_replicas_are_counted(rt: HostRuntime) -> Result<(), Fail> {
     let alloc = rt.alloc();
     let mut first = node(alloc, 0)?;
-    let message = asked(alloc, &mut first, write(alloc, b"x", 5)?, Level::All, 1)?;
-    let request = message.request;
+    let request = written_at_all(alloc, &mut first)?;
     for from in [1, 1, 5] {
-        let message = acknowledgement(from, request)?;
-        assert!(rt; matches!(told_of(alloc, &mut first, message)?, Told::Nothing));
+        assert_eq!(rt;
+            told_by_one(alloc, &mut first, from, request)?,
+            Told::Nothing
+        );
     }
-    let last = acknowledgement(2, request)?;
-    assert!(rt; matches!(told_of(alloc, &mut first, last)?, Told::Acked(3)));
+    assert_eq!(rt; told_by_one(alloc, &mut first, 2, request)?, Told::Acked(3));
     Ok(())
+}
+
+/// What is told of a write of x at this level.
+fn told_of_a_write(alloc: Global, node: &mut Tested, level: Level) -> Result<Told, Fail> {
+    told_at(alloc, node, write(alloc, b"x", 5)?, level)
+}
+
+/// What is told of a read at this level.
+fn told_of_a_read(alloc: Global, node: &mut Tested, level: Level) -> Result<Told, Fail> {
+    told_at(alloc, node, read(alloc)?, level)
+}
+
+/// What a read at QUORUM of the second node is told at the reply of the first one.
+fn told_at_a_reply(alloc: Global, first: &mut Tested, second: &mut Tested) -> Result<Told, Fail> {
+    let query = asked(alloc, second, read(alloc)?, Level::Quorum, 0)?;
+    let reply = replied(alloc, first, query, 1)?;
+    told_of(alloc, second, reply)
 }
 
 #[test]
@@ -201,22 +153,17 @@ fn a_quorum_answers_a_read(rt: HostRuntime) -> Result<(), Fail> {
     let alloc = rt.alloc();
     let mut first = node(alloc, 0)?;
     let mut second = node(alloc, 1)?;
-    let write = write(alloc, b"x", 5)?;
-    assert!(rt;
-        matches!(
-            told_at(alloc, &mut first, write, Level::One)?,
-            Told::Acked(1)
-        )
+    assert_eq!(rt;
+        told_of_a_write(alloc, &mut first, Level::One)?,
+        Told::Acked(1)
     );
-    let query = asked(alloc, &mut second, read(alloc)?, Level::Quorum, 0)?;
-    let reply = replied(alloc, &mut first, query, 1)?;
-    assert!(rt; matches!(told_of(alloc, &mut second, reply)?, Told::Shown(Some(b'x'))));
-    let read = read(alloc)?;
-    assert!(rt;
-        matches!(
-            told_at(alloc, &mut second, read, Level::One)?,
-            Told::Shown(None)
-        )
+    assert_eq!(rt;
+        told_at_a_reply(alloc, &mut first, &mut second)?,
+        Told::Shown(Some(b'x'))
+    );
+    assert_eq!(rt;
+        told_of_a_read(alloc, &mut second, Level::One)?,
+        Told::Shown(None)
     );
     Ok(())
 }
@@ -225,16 +172,27 @@ fn a_quorum_answers_a_read(rt: HostRuntime) -> Result<(), Fail> {
 fn a_read_waits_for_a_quorum(rt: HostRuntime) -> Result<(), Fail> {
     let alloc = rt.alloc();
     let mut first = node(alloc, 0)?;
-    let read = read(alloc)?;
-    assert!(rt;
-        matches!(
-            told_at(alloc, &mut first, read, Level::Quorum)?,
-            Told::Begun
-        )
+    assert_eq!(rt;
+        told_of_a_read(alloc, &mut first, Level::Quorum)?,
+        Told::Begun
     );
-    let write = write(alloc, b"x", 5)?;
-    assert!(rt; matches!(told_at(alloc, &mut first, write, Level::Two)?, Told::Begun));
+    assert_eq!(rt;
+        told_of_a_write(alloc, &mut first, Level::Two)?,
+        Told::Begun
+    );
     Ok(())
+}
+
+/// What is told where of two writes of the first node the later one comes to the second node first.
+fn told_out_of_order(
+    alloc: Global,
+    first: &mut Tested,
+    second: &mut Tested,
+) -> Result<[Told; 2], Fail> {
+    let early = asked(alloc, first, write(alloc, b"e", 5)?, Level::All, 1)?;
+    let late = asked(alloc, first, write(alloc, b"l", 6)?, Level::All, 1)?;
+    let told = told_of(alloc, second, late)?;
+    Ok([told, told_of(alloc, second, early)?])
 }
 
 #[test]
@@ -242,17 +200,10 @@ fn order_does_not_matter(rt: HostRuntime) -> Result<(), Fail> {
     let alloc = rt.alloc();
     let mut first = node(alloc, 0)?;
     let mut second = node(alloc, 1)?;
-    let early = asked(alloc, &mut first, write(alloc, b"e", 5)?, Level::All, 1)?;
-    let late = asked(alloc, &mut first, write(alloc, b"l", 6)?, Level::All, 1)?;
-    assert!(rt; matches!(told_of(alloc, &mut second, late)?, Told::Nothing));
-    assert!(rt; matches!(told_of(alloc, &mut second, early)?, Told::Nothing));
-    let read = read(alloc)?;
-    assert!(rt;
-        matches!(
-            told_at(alloc, &mut second, read, Level::LocalOne)?,
-            Told::Shown(Some(b'l'))
-        )
-    );
+    let told = told_out_of_order(alloc, &mut first, &mut second)?;
+    assert_eq!(rt; told, [Told::Nothing, Told::Nothing]);
+    let shown = told_of_a_read(alloc, &mut second, Level::LocalOne)?;
+    assert_eq!(rt; shown, Told::Shown(Some(b'l')));
     Ok(())
 }
 
@@ -260,38 +211,39 @@ fn order_does_not_matter(rt: HostRuntime) -> Result<(), Fail> {
 fn requests_are_refused(rt: HostRuntime) -> Result<(), Fail> {
     let alloc = rt.alloc();
     let mut alone = lone_node(alloc)?;
-    let two = told_at(alloc, &mut alone, write(alloc, b"x", 5)?, Level::Two)?;
-    assert!(rt;
-        matches!(
-            two,
-            Told::Refused(Refusal::Unavailable {
-                required: 2,
-                alive: 1
-            })
-        )
+    let few = Refusal::Unavailable {
+        required: 2,
+        alive: 1,
+    };
+    assert_eq!(rt;
+        told_of_a_write(alloc, &mut alone, Level::Two)?,
+        Told::Refused(few)
     );
-    let serial = told_at(alloc, &mut alone, write(alloc, b"x", 5)?, Level::Serial)?;
-    assert!(rt;
-        matches!(
-            serial,
-            Told::Refused(Refusal::Invalid(Invalid::SerialWrite))
-        )
+    let serial = Refusal::Invalid(Invalid::SerialWrite);
+    assert_eq!(rt;
+        told_of_a_write(alloc, &mut alone, Level::Serial)?,
+        Told::Refused(serial)
     );
-    let serial = told_at(alloc, &mut alone, read(alloc)?, Level::LocalSerial)?;
-    assert!(rt; matches!(serial, Told::Refused(Refusal::Invalid(Invalid::Level))));
-    let all = told_at(alloc, &mut alone, read(alloc)?, Level::All)?;
-    assert!(rt; matches!(all, Told::Shown(None)));
+    let level = Refusal::Invalid(Invalid::Level);
+    assert_eq!(rt;
+        told_of_a_read(alloc, &mut alone, Level::LocalSerial)?,
+        Told::Refused(level)
+    );
+    assert_eq!(rt;
+        told_of_a_read(alloc, &mut alone, Level::All)?,
+        Told::Shown(None)
+    );
     Ok(())
 }
 
-fn mark(alloc: Global, node: &mut Node, peer: u8, up: bool) -> Result<(), Fail> {
+fn mark(alloc: Global, node: &mut Tested, peer: u8, up: bool) -> Result<(), Fail> {
     let outputs = take(alloc, node, What::Alive(id(peer)?, up))?;
     let is_quiet = outputs.sends.as_slice().is_empty() && outputs.entries.as_slice().is_empty();
     Ok(is_quiet.then_some(()).ok_or("a mark gives something")?)
 }
 
 /// The other nodes to which a write at this level goes, as the bits of their numbers.
-fn written_to(alloc: Global, node: &mut Node, level: Level) -> Result<u8, Fail> {
+fn written_to(alloc: Global, node: &mut Tested, level: Level) -> Result<u8, Fail> {
     let plan = write(alloc, b"x", 5)?;
     let outputs = take(alloc, node, What::Client(Ask { plan, level }))?;
     let mut nodes = 0;
@@ -305,18 +257,22 @@ fn written_to(alloc: Global, node: &mut Node, level: Level) -> Result<u8, Fail> 
 fn dead_replicas_are_not_asked(rt: HostRuntime) -> Result<(), Fail> {
     let alloc = rt.alloc();
     let mut first = node(alloc, 0)?;
-    for (peer, up, others) in [
-        (1, false, 0b100),
-        (1, false, 0b100),
-        (0, false, 0b100),
-        (5, false, 0b100),
-        (2, true, 0b100),
-        (1, true, 0b110),
-        (2, false, 0b010),
+    for (peer, up, others, down) in [
+        (1, false, 0b100, 0b010),
+        (1, false, 0b100, 0b010),
+        (0, false, 0b100, 0b010),
+        (5, false, 0b100, 0b010),
+        (2, true, 0b100, 0b010),
+        (1, true, 0b110, 0),
+        (2, false, 0b010, 0b100),
     ] {
         mark(alloc, &mut first, peer, up)?;
+        assert_eq!(rt; first.down(), down);
         assert_eq!(rt; written_to(alloc, &mut first, Level::Quorum)?, others);
     }
+    let setting = setting(alloc, &[-3, 0, 3], 3)?;
+    let loaded = Tested::load(alloc, NodeId::FIRST, setting, first.crashed(Outcome::Lost))?;
+    assert_eq!(rt; loaded.down(), 0);
     Ok(())
 }
 
@@ -326,18 +282,18 @@ fn too_few_replicas_are_alive(rt: HostRuntime) -> Result<(), Fail> {
     let mut first = node(alloc, 0)?;
     mark(alloc, &mut first, 1, false)?;
     mark(alloc, &mut first, 2, false)?;
-    let two = told_at(alloc, &mut first, read(alloc)?, Level::Two)?;
-    assert!(rt;
-        matches!(
-            two,
-            Told::Refused(Refusal::Unavailable {
-                required: 2,
-                alive: 1
-            })
-        )
+    let few = Refusal::Unavailable {
+        required: 2,
+        alive: 1,
+    };
+    assert_eq!(rt;
+        told_of_a_read(alloc, &mut first, Level::Two)?,
+        Told::Refused(few)
     );
-    let one = told_at(alloc, &mut first, write(alloc, b"x", 5)?, Level::One)?;
-    assert!(rt; matches!(one, Told::Acked(1)));
+    assert_eq!(rt;
+        told_of_a_write(alloc, &mut first, Level::One)?,
+        Told::Acked(1)
+    );
     Ok(())
 }
 
@@ -367,30 +323,6 @@ fn statements_without_a_partition_are_answered(rt: HostRuntime) -> Result<(), Fa
 fn time_has_an_end(rt: HostRuntime) -> Result<(), Fail> {
     let alloc = rt.alloc();
     let mut alone = lone_node(alloc)?;
-    let clock = Micros::new(u64::MAX);
-    let what = What::Tick;
-    let outputs = alone.step(alloc, Event { clock, what })?;
-    assert_eq!(rt; outputs.time.count(), 1 << 62);
-    Ok(())
-}
-
-#[test]
-fn no_time_is_left(rt: HostRuntime) -> Result<(), Fail> {
-    let alloc = rt.alloc();
-    let mut alone = lone_node(alloc)?;
-    let request = ReqId {
-        node: NodeId::FIRST,
-        time: Micros::new(1),
-    };
-    let message = Message {
-        from: NodeId::FIRST,
-        upto: NodeId::FIRST,
-        time: Micros::new(u64::MAX),
-        born: Micros::new(1),
-        request,
-        body: Body::WriteAck,
-    };
-    let refused = take(alloc, &mut alone, What::Deliver(message));
-    assert!(rt; matches!(refused, Err(StepError::NoRoom)));
+    assert_eq!(rt; alone.time_at(alloc, u64::MAX)?, 1 << 62);
     Ok(())
 }

@@ -7,3 +7,4 @@ mod order;
 
 pub use condition::holds;
 pub use laws::bytes_compare_as_values;
+pub use order::order_of;

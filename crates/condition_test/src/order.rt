@@ -3,8 +3,10 @@
 ghost use Rattle.std.specs.Prelude.{◌≡◌};
 ghost use Rattle.cql_values.specs.Value.{uuid_time};
 ghost use Rattle.condition_test.specs.Conditions.{time_of, value_cmp};
+ghost use Rattle.condition_test.specs.Laws.{order_of_type};
 ghost use Rattle.statement_plan.specs.declared.operation.ValueOrder.TheVariants as orders;
 
+use cql_values::CqlType;
 use statement_plan::ValueOrder;
 use std::cmp::Ordering;
 
@@ -50,5 +52,23 @@ pub(crate) fn compare(order: ValueOrder, a: &[u8], b: &[u8]) -> Ordering
         ValueOrder::Signed => signed(a, b),
         ValueOrder::Plain => a.cmp(b),
         ValueOrder::Time => timed(a, b),
+    }
+}
+
+/// How the bytes of a type's values compare: whole numbers and timestamps as numbers, uuids of version 1 by their time, and
+/// others by their bytes. It is the order of the values, which [`bytes_compare_as_values`](crate::bytes_compare_as_values)
+/// says.
+pub fn order_of(ty: CqlType) -> ValueOrder
+    ensures { result ≡ order_of_type ty }
+{
+    match ty {
+        CqlType::Bigint
+        | CqlType::Int
+        | CqlType::Timestamp
+        | CqlType::Smallint
+        | CqlType::Tinyint => ValueOrder::Signed,
+        CqlType::Timeuuid => ValueOrder::Time,
+        CqlType::Ascii | CqlType::Blob | CqlType::Boolean | CqlType::Uuid | CqlType::Text =>
+            ValueOrder::Plain,
     }
 }

@@ -7,7 +7,7 @@ use row_change::{
 use std::alloc::{AllocError, Global};
 use std::test::Fail;
 
-/// What stands behind place and value: timestamp -2, submitted at 5, by the request of node 6 that began at 9.
+/// What stands behind place and value: timestamp -2, submitted at 5, by request 9 of node 6.
 const STAMP: &[u8] = b"\xff\xff\xff\xff\xff\xff\xff\xfe\0\0\0\0\0\0\0\x05\x06\0\0\0\0\0\0\0\x09";
 
 /// Tag, place and value of a change of each kind, in the order of places.
@@ -72,7 +72,7 @@ const PARTITION: &[u8] = b"\0\x03\xff\xff\xff\xff\xff\xff\xff\xf9\0\0\0\x01k";
 const BALLOTS: &[u8] =
     b"\0\0\0\0\0\0\0\x10\0\0\0\0\0\0\0\x08\0\0\0\0\0\0\0\x09\0\0\0\0\0\0\0\0\0\0\0\0\0\0\0\x0b\0\0\0\0\0\0\0\0\0\0\0\0\0\0\0\0\0\0\0\0\0\0\x01\x06";
 
-/// Ballot 9 with an update without changes, of the request of node 1 that began at 4, upon ballot 3.
+/// Ballot 9 with an update without changes, of request 4 of node 1, upon ballot 3.
 const STAMPED: &[u8] = b"\x01\0\0\0\0\0\0\0\x09\x01\0\0\0\0\0\0\0\x04\0\0\0\0\0\0\0\x03\0\0\0\0";
 
 /// An item of each kind.
@@ -305,12 +305,18 @@ fn fronts_are_short(alloc: Global, bytes: &[u8]) -> bool {
     true
 }
 
-/// Whether each change of one byte is refused, or is another word.
+/// What bytes are changed by: each change of the low four bits, so that each tag and small count becomes each other one, each
+/// of the high bits, and all bits.
+const MASKS: [u8; 20] = [
+    1, 2, 3, 4, 5, 6, 7, 8, 9, 10, 11, 12, 13, 14, 15, 0x10, 0x20, 0x40, 0x80, 0xff,
+];
+
+/// Whether each of these changes of one byte is refused, or gives another word.
 fn changed_bytes_are_sound(alloc: Global, bytes: &mut [u8]) -> Result<bool, AllocError> {
     for at in 0..bytes.len() {
         let kept = bytes[at];
-        for mask in 1..256u16 {
-            bytes[at] = kept ^ (mask as u8);
+        for mask in MASKS {
+            bytes[at] = kept ^ mask;
             if !is_sound(alloc, bytes)? {
                 return Ok(false);
             }

@@ -259,3 +259,114 @@ fn a_cell_keeps_its_arrival_until_another_comes(rt: HostRuntime) -> Result<(), F
     }
     Ok(())
 }
+
+/// A name of one of some rows, in order.
+fn numbered(alloc: Global, row: u32) -> Result<Bytes, AllocError> {
+    Bytes::from_slice(alloc, &row.to_be_bytes())
+}
+
+fn edge(alloc: Global, row: u32) -> Result<Bound, AllocError> {
+    Ok(Bound {
+        at: numbered(alloc, row)?,
+        after: row % 2 == 1,
+    })
+}
+
+/// A place among sixteen rows: a deletion of a range of a few rows, of a row or rarely of the partition, or a cell between.
+fn crowded_place(alloc: Global, seed: &mut u32) -> Result<Place, AllocError> {
+    let row = next(seed, 16);
+    Ok(match next(seed, 24) {
+        0 => Place::PartGone,
+        1..=5 => {
+            let width = next(seed, 6);
+            Place::RangeGone(edge(alloc, row)?, edge(alloc, row.saturating_add(width))?)
+        }
+        6..=9 => Place::RowGone(numbered(alloc, row)?),
+        10 => Place::Marker(numbered(alloc, row)?),
+        _ => Place::Cell(numbered(alloc, row)?, (next(seed, 3) % 3) as u8),
+    })
+}
+
+/// The content of so many changes at crowded places, later ones mostly at later timestamps.
+fn crowd(alloc: Global, seed: &mut u32, count: u32, turn: u32) -> Result<Content, AllocError> {
+    let mut changes = Vec::new(alloc);
+    for _ in 0..count {
+        let place = crowded_place(alloc, seed)?;
+        let value = value(alloc, &place, seed)?;
+        changes.push(Held {
+            place,
+            value,
+            timestamp: i64::from(turn % 1000) + i64::from(next(seed, 6)),
+            submitted: Micros::new(1),
+            request: ReqId {
+                node: NodeId::FIRST,
+                time: Micros::new(1),
+            },
+        })?;
+    }
+    Content::from_changes(alloc, changes)
+}
+
+#[test]
+fn sweeps_what_a_plain_list_sweeps(rt: HostRuntime) -> Result<(), Fail> {
+    let alloc = rt.alloc();
+    for start in 0..8 {
+        let mut seed = start;
+        let mut content = PartitionContent::new(alloc);
+        let mut plain = Vec::new(alloc);
+        for turn in 0..30 {
+            let count = next(&mut seed, 12).saturating_add(1);
+            let incoming = crowd(alloc, &mut seed, count, turn)?;
+            content.reserve(&incoming)?;
+            plain = plain_merge(alloc, &plain, incoming.as_slice())?;
+            let told = content.length_with(&incoming);
+            content.apply(incoming, Micros::new(1));
+            let whole = content.whole(alloc)?;
+            assert_eq!(rt; whole.as_slice(), plain.as_slice());
+            assert_eq!(rt; content.encoded_length(), encoded_length(&plain));
+            assert_eq!(rt; told, content.encoded_length());
+            assert_eq!(rt; content.key_count(), plain.len());
+        }
+    }
+    Ok(())
+}
+
+fn one(alloc: Global, place: Place, timestamp: i64) -> Result<Content, AllocError> {
+    let mut changes = Vec::new(alloc);
+    changes.push(Held {
+        place,
+        value: None,
+        timestamp,
+        submitted: Micros::new(1),
+        request: ReqId {
+            node: NodeId::FIRST,
+            time: Micros::new(1),
+        },
+    })?;
+    Content::from_changes(alloc, changes)
+}
+
+#[test]
+fn a_range_of_few_rows_among_many_is_deleted(rt: HostRuntime) -> Result<(), Fail> {
+    let alloc = rt.alloc();
+    let mut content = PartitionContent::new(alloc);
+    for row in 0..10_000 {
+        let incoming = one(alloc, Place::Cell(numbered(alloc, row)?, 0), 1)?;
+        content.reserve(&incoming)?;
+        content.apply(incoming, Micros::new(1));
+    }
+    let before = content.encoded_length();
+    let place = Place::RangeGone(edge(alloc, 5_000)?, edge(alloc, 5_009)?);
+    let incoming = one(alloc, place, 2)?;
+    content.reserve(&incoming)?;
+    let told = content.length_with(&incoming);
+    content.apply(incoming, Micros::new(2));
+    assert_eq!(rt; told, content.encoded_length());
+    assert_eq!(rt; content.key_count(), 9_991);
+    assert!(rt; told < before);
+    for row in 4_999..5_011 {
+        let there = content.get(Place::Cell(numbered(alloc, row)?, 0));
+        assert_eq!(rt; there.is_none(), (5_000..5_010).contains(&row));
+    }
+    Ok(())
+}

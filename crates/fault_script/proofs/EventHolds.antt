@@ -1,13 +1,15 @@
 -- What a line after `run` gives is at nodes of the ring.
-use Rattle.std.proofs.Common.{ℕ, ◌^◌, ◌-◌, ◌<◌, List, [], ◌∷◌, Option, Some, None, arith, leb, ℤ}
+use Rattle.std.proofs.Common.{ℕ, ◌^◌, ◌-◌, ◌<◌, List, [], ◌∷◌, Option, Some, None, Result, arith, leb, ℤ}
 use Rattle.std.specs.Prelude.{◌&&◌, codes, IfOk, IfSome}
 use Rattle.std.specs.Str.{bytes_eq}
 use Rattle.std.specs.Option.{option_map}
 use Rattle.std.proofs.lemmas.Bool.{and_parts, leb-true}
 use Rattle.cs_base.specs.declared.level.Level.{Level}
 use Rattle.fault_script.specs.declared.script.ScriptEvent.TheVariants as event
+use Rattle.cs_store.specs.declared.mem_file.Outcome.{Outcome}
+use Rattle.fault_script.specs.declared.script.Fault.{Fault}
 use Rattle.fault_script.specs.declared.script.Fault.TheVariants as fault
-use Rattle.fault_script.specs.Lines.{put_line, put_of, get_line, get_of, message_line, place_of, settle_line, event_line, cql_of, cql_behind, cql_from, event_of_words, event_of, event_at, words_of, behind, first_word, node_of, level_of, long_of, number_within, number_value, is_number, is_signed_number}
+use Rattle.fault_script.specs.Lines.{put_line, put_of, get_line, get_of, message_line, place_of, settle_line, named_node, pair_of, named_pair, node_line, pair_line, clock_at, crash_of, crash_line, stop_of, stop_line, fail_at, node_event, outcome_of, word_line, event_line, cql_of, cql_behind, cql_from, event_of_words, event_of, event_at, words_of, behind, first_word, node_of, level_of, long_of, number_within, number_value, is_number, is_signed_number}
 use Rattle.fault_script.specs.Laws.{IsAtNodes, IsBetweenNodes}
 use Rattle.fault_script.proofs.Holding.{either_holds, some_where, understood_where, result_map_holds}
 
@@ -72,14 +74,76 @@ settle_line_holds nodes [] = tt
 settle_line_holds nodes (a ∷ []) = understood_where (IsAtNodes nodes) fault.Line (is_number a) (option_map event.Settle (number_within 1 100000 a)) (λ _. count_holds nodes (number_within 1 100000 a))
 settle_line_holds nodes (a ∷ b ∷ words) = tt
 
-event_line_holds : (nodes : ℕ) (words : List (List ℕ)) → 0 < nodes → IfOk (event_line nodes words) (IsAtNodes nodes)
-event_line_holds nodes [] some = tt
-event_line_holds nodes (word ∷ words) some =
+-- ---- what happens to a node
+
+pair_of_holds : (nodes : ℕ) (node number : Option ℕ) → IfSome node (λ n. n < nodes) → IfSome (pair_of node number) (λ p. p.0 < nodes)
+pair_of_holds nodes None number h = tt
+pair_of_holds nodes (Some node) None h = tt
+pair_of_holds nodes (Some node) (Some number) h = h
+
+named_node_holds : (nodes : ℕ) (word : List ℕ) → 0 < nodes → IfOk (named_node nodes word) (λ n. n < nodes)
+named_node_holds nodes word some = understood_where (λ (n : ℕ). n < nodes) fault.Line (is_number word) (node_of nodes word) (λ _. node_holds nodes word some)
+
+named_pair_holds : (nodes least most : ℕ) (node number : List ℕ) → 0 < nodes → IfOk (named_pair nodes least most node number) (λ p. p.0 < nodes)
+named_pair_holds nodes least most node number some =
+    understood_where (λ (p : ℕ × ℕ). p.0 < nodes) fault.Line (is_number node && is_number number) (pair_of (node_of nodes node) (number_within least most number))
+    (λ _. pair_of_holds nodes (node_of nodes node) (number_within least most number) (node_holds nodes node some))
+
+node_line_holds : (nodes : ℕ) (words : List (List ℕ)) → 0 < nodes → IfOk (node_line nodes words) (λ n. n < nodes)
+node_line_holds nodes [] some = tt
+node_line_holds nodes (a ∷ []) some = named_node_holds nodes a some
+node_line_holds nodes (a ∷ b ∷ words) some = tt
+
+pair_line_holds : (nodes least most : ℕ) (words : List (List ℕ)) → 0 < nodes → IfOk (pair_line nodes least most words) (λ p. p.0 < nodes)
+pair_line_holds nodes least most [] some = tt
+pair_line_holds nodes least most (a ∷ []) some = tt
+pair_line_holds nodes least most (a ∷ b ∷ []) some = named_pair_holds nodes least most a b some
+pair_line_holds nodes least most (a ∷ b ∷ c ∷ words) some = tt
+
+crash_of_holds : (nodes : ℕ) (outcome : Option Outcome) (node : Result ℕ Fault) → IfOk node (λ n. n < nodes) → IfOk (crash_of outcome node) (IsAtNodes nodes)
+crash_of_holds nodes None node h = tt
+crash_of_holds nodes (Some outcome) node h = result_map_holds (IsAtNodes nodes) (λ n. event.Crash n outcome) node h
+
+crash_line_holds : (nodes : ℕ) (words : List (List ℕ)) → 0 < nodes → IfOk (crash_line nodes words) (IsAtNodes nodes)
+crash_line_holds nodes [] some = tt
+crash_line_holds nodes (a ∷ []) some = tt
+crash_line_holds nodes (a ∷ b ∷ []) some = crash_of_holds nodes (outcome_of b) (named_node nodes a) (named_node_holds nodes a some)
+crash_line_holds nodes (a ∷ b ∷ c ∷ words) some = tt
+
+stop_of_holds : (nodes : ℕ) (outcome : Option Outcome) (pair : Result (ℕ × ℕ) Fault) → IfOk pair (λ p. p.0 < nodes) → IfOk (stop_of outcome pair) (IsAtNodes nodes)
+stop_of_holds nodes None pair h = tt
+stop_of_holds nodes (Some outcome) pair h = result_map_holds (IsAtNodes nodes) (λ (p : ℕ × ℕ). event.StopAt p.0 p.1 outcome) pair h
+
+stop_line_holds : (nodes : ℕ) (words : List (List ℕ)) → 0 < nodes → IfOk (stop_line nodes words) (IsAtNodes nodes)
+stop_line_holds nodes [] some = tt
+stop_line_holds nodes (a ∷ []) some = tt
+stop_line_holds nodes (a ∷ b ∷ []) some = tt
+stop_line_holds nodes (a ∷ b ∷ c ∷ []) some = stop_of_holds nodes (outcome_of c) (named_pair nodes 1 4294967295 a b) (named_pair_holds nodes 1 4294967295 a b some)
+stop_line_holds nodes (a ∷ b ∷ c ∷ d ∷ words) some = tt
+
+node_event_holds : (nodes : ℕ) (word : List ℕ) (words : List (List ℕ)) → 0 < nodes → IfOk (node_event nodes word words) (IsAtNodes nodes)
+node_event_holds nodes word words some =
+    let node = node_line nodes words in
+    let is_node = node_line_holds nodes words some in
+    either_holds (IsAtNodes nodes) (bytes_eq word (codes "clock")) _ _ (result_map_holds (IsAtNodes nodes) clock_at (pair_line nodes 0 (2 ^ 64 - 1) words) (pair_line_holds nodes 0 (2 ^ 64 - 1) words some))
+    (either_holds (IsAtNodes nodes) (bytes_eq word (codes "crash")) _ _ (crash_line_holds nodes words some)
+    (either_holds (IsAtNodes nodes) (bytes_eq word (codes "stopat")) _ _ (stop_line_holds nodes words some)
+    (either_holds (IsAtNodes nodes) (bytes_eq word (codes "failat")) _ _ (result_map_holds (IsAtNodes nodes) fail_at (pair_line nodes 1 4294967295 words) (pair_line_holds nodes 1 4294967295 words some))
+    (either_holds (IsAtNodes nodes) (bytes_eq word (codes "restart")) _ _ (result_map_holds (IsAtNodes nodes) event.Restart node is_node)
+    (either_holds (IsAtNodes nodes) (bytes_eq word (codes "flush")) _ _ (result_map_holds (IsAtNodes nodes) event.Flush node is_node)
+    (either_holds (IsAtNodes nodes) (bytes_eq word (codes "merge")) _ _ (result_map_holds (IsAtNodes nodes) event.Merge node is_node) tt))))))
+
+word_line_holds : (nodes : ℕ) (word : List ℕ) (words : List (List ℕ)) → 0 < nodes → IfOk (word_line nodes word words) (IsAtNodes nodes)
+word_line_holds nodes word words some =
     either_holds (IsAtNodes nodes) (bytes_eq word (codes "put")) _ _ (put_line_holds nodes words some)
     (either_holds (IsAtNodes nodes) (bytes_eq word (codes "get")) _ _ (get_line_holds nodes words some)
     (either_holds (IsAtNodes nodes) (bytes_eq word (codes "deliver")) _ _ (result_map_holds (IsAtNodes nodes) event.Deliver (message_line nodes words) (message_line_holds nodes words some))
     (either_holds (IsAtNodes nodes) (bytes_eq word (codes "drop")) _ _ (result_map_holds (IsAtNodes nodes) event.Drop (message_line nodes words) (message_line_holds nodes words some))
-    (either_holds (IsAtNodes nodes) (bytes_eq word (codes "settle")) _ _ (settle_line_holds nodes words) tt))))
+    (either_holds (IsAtNodes nodes) (bytes_eq word (codes "settle")) _ _ (settle_line_holds nodes words) (node_event_holds nodes word words some)))))
+
+event_line_holds : (nodes : ℕ) (words : List (List ℕ)) → 0 < nodes → IfOk (event_line nodes words) (IsAtNodes nodes)
+event_line_holds nodes [] some = tt
+event_line_holds nodes (word ∷ words) some = word_line_holds nodes word words some
 
 -- ---- lines with a statement
 

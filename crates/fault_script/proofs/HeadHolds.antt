@@ -1,4 +1,4 @@
--- What the lines of the head give is a ring, and a factor of its.
+-- What the lines of the head give is a ring, a factor of its, and an expiry within its bounds.
 use Rattle.std.proofs.Common.{◌≡◌, ℕ, zero, suc, ◌^◌, ◌≤◌, Bool, true, false, List, [], ◌∷◌, Option, Some, None, Result, Ok, Err, length, map, refl, cond, subst, arith, leb, FitsSigned, w64, ℤ, pos, negsuc}
 use Rattle.std.specs.Prelude.{◌&&◌, codes, IfOk, IfSome}
 use Rattle.std.specs.List.{list_all}
@@ -18,26 +18,28 @@ use Rattle.fault_script.specs.Lines.{version_line, ring_line, ring_of, factor_li
 use Rattle.fault_script.proofs.Apart.{passing_apart}
 use Rattle.fault_script.proofs.Holding.{either_holds, some_where, understood_where, option_map_holds, result_map_holds}
 
--- a factor from 1 to the number of nodes
-pub record IsFactor (tokens : List ℤ) (factor : ℕ) : Type 0 where
+-- a factor from 1 to the number of nodes, and an expiry from 1,000 to 100,000 seconds
+pub record AreSettings (tokens : List ℤ) (factor expiry : ℕ) : Type 0 where
   pub ring : IsRing tokens
   pub some : 1 ≤ factor
   pub few : factor ≤ length tokens
+  pub least : 1000 ≤ expiry
+  pub most : expiry ≤ 100000
 
 -- what the lines found so far say
 abbrev pub Knows : HeadStage → Type 0
 Knows stage.Version = Unit {0}
 Knows stage.Ring = Unit {0}
 Knows (stage.Factor ring) = IsRing ring
-Knows (stage.Grace settings) = IsFactor settings.ring settings.factor
-Knows (stage.Expiry settings) = IsFactor settings.ring settings.factor
-Knows (stage.Schema settings) = IsFactor settings.ring settings.factor
+Knows (stage.Grace settings) = AreSettings settings.ring settings.factor settings.expiry
+Knows (stage.Expiry settings) = AreSettings settings.ring settings.factor settings.expiry
+Knows (stage.Schema settings) = AreSettings settings.ring settings.factor settings.expiry
 
 -- and what a line says
 abbrev pub Says : HeadLine → Type 0
 Says (head.Next next) = Knows next
-Says (head.Schema settings text) = IsFactor settings.ring settings.factor
-Says (head.Run settings) = IsFactor settings.ring settings.factor
+Says (head.Schema settings text) = AreSettings settings.ring settings.factor settings.expiry
+Says (head.Run settings) = AreSettings settings.ring settings.factor settings.expiry
 
 version_holds : (words : List (List ℕ)) → IfOk (version_line words) Knows
 version_holds [] = tt
@@ -93,12 +95,12 @@ ring_line_holds (word ∷ tokens) =
 
 -- ---- the factor
 
-factor_holds : (ring : List ℤ) (word : List ℕ) → IsRing ring → IfSome (number_within 1 (length ring) word) (IsFactor ring)
+factor_holds : (ring : List ℤ) (word : List ℕ) → IsRing ring → IfSome (number_within 1 (length ring) word) (λ n. AreSettings ring n 10800)
 factor_holds ring word is =
     let n = number_value word in
-    some_where (IsFactor ring) (leb 1 n && leb n (length ring)) n (λ within.
+    some_where (λ (factor : ℕ). AreSettings ring factor 10800) (leb 1 n && leb n (length ring)) n (λ within.
     let parts = and_parts (leb 1 n) (leb n (length ring)) within in
-    record { ring = is; some = leb-true 1 n parts.0; few = leb-true n (length ring) parts.1 })
+    record { ring = is; some = leb-true 1 n parts.0; few = leb-true n (length ring) parts.1; least = omega arith; most = omega arith })
 
 factor_line_holds : (ring : List ℤ) (words : List (List ℕ)) → IsRing ring → IfOk (factor_line ring words) Knows
 factor_line_holds ring [] is = tt
@@ -115,30 +117,38 @@ some_number : (P : HeadStage → Type 0) (f : ℕ → HeadStage) (number : Optio
 some_number P f None h = tt
 some_number P f (Some n) h = h n
 
-grace_line_holds : (settings : Settings) (words : List (List ℕ)) → IsFactor settings.ring settings.factor → IfOk (grace_line settings words) Knows
+grace_line_holds : (settings : Settings) (words : List (List ℕ)) → AreSettings settings.ring settings.factor settings.expiry → IfOk (grace_line settings words) Knows
 grace_line_holds settings [] is = tt
 grace_line_holds settings (word ∷ []) is = tt
 grace_line_holds settings (word ∷ seconds ∷ []) is =
     understood_where Knows fault.Head (is_number seconds) (option_map (with_grace settings) (number_within 0 100000000 seconds)) (λ _. some_number Knows (with_grace settings) (number_within 0 100000000 seconds) (λ n. is))
 grace_line_holds settings (word ∷ seconds ∷ more ∷ words) is = tt
 
-expiry_line_holds : (settings : Settings) (words : List (List ℕ)) → IsFactor settings.ring settings.factor → IfOk (expiry_line settings words) Knows
+-- 1,000 to 100,000 seconds
+expiry_holds : (settings : Settings) (word : List ℕ) → AreSettings settings.ring settings.factor settings.expiry → IfSome (number_within 1000 100000 word) (AreSettings settings.ring settings.factor)
+expiry_holds settings word is =
+    let n = number_value word in
+    some_where (AreSettings settings.ring settings.factor) (leb 1000 n && leb n 100000) n (λ within.
+    let parts = and_parts (leb 1000 n) (leb n 100000) within in
+    record { ring = is.ring; some = is.some; few = is.few; least = leb-true 1000 n parts.0; most = leb-true n 100000 parts.1 })
+
+expiry_line_holds : (settings : Settings) (words : List (List ℕ)) → AreSettings settings.ring settings.factor settings.expiry → IfOk (expiry_line settings words) Knows
 expiry_line_holds settings [] is = tt
 expiry_line_holds settings (word ∷ []) is = tt
 expiry_line_holds settings (word ∷ seconds ∷ []) is =
-    understood_where Knows fault.Head (is_number seconds) (option_map (with_expiry settings) (number_within 1000 100000 seconds)) (λ _. some_number Knows (with_expiry settings) (number_within 1000 100000 seconds) (λ n. is))
+    understood_where Knows fault.Head (is_number seconds) (option_map (with_expiry settings) (number_within 1000 100000 seconds)) (λ _. option_map_holds Knows (with_expiry settings) (number_within 1000 100000 seconds) (expiry_holds settings seconds is))
 expiry_line_holds settings (word ∷ seconds ∷ more ∷ words) is = tt
 
-run_line_holds : (settings : Settings) (words : List (List ℕ)) → IsFactor settings.ring settings.factor → IfOk (run_line settings words) Says
+run_line_holds : (settings : Settings) (words : List (List ℕ)) → AreSettings settings.ring settings.factor settings.expiry → IfOk (run_line settings words) Says
 run_line_holds settings [] is = tt
 run_line_holds settings (word ∷ []) is = understood_where Says fault.Head (bytes_eq word (codes "run")) (Some (head.Run settings)) (λ _. is)
 run_line_holds settings (word ∷ more ∷ words) is = tt
 
-later_line_holds : (settings : Settings) (words : List (List ℕ)) → IsFactor settings.ring settings.factor → IfOk (later_line settings words) Says
+later_line_holds : (settings : Settings) (words : List (List ℕ)) → AreSettings settings.ring settings.factor settings.expiry → IfOk (later_line settings words) Says
 later_line_holds settings words is =
     either_holds Says (is_first (codes "expiry") words) _ _ (result_map_holds Says head.Next (expiry_line settings words) (expiry_line_holds settings words is)) (run_line_holds settings words is)
 
-option_line_holds : (settings : Settings) (words : List (List ℕ)) → IsFactor settings.ring settings.factor → IfOk (option_line settings words) Says
+option_line_holds : (settings : Settings) (words : List (List ℕ)) → AreSettings settings.ring settings.factor settings.expiry → IfOk (option_line settings words) Says
 option_line_holds settings words is =
     either_holds Says (is_first (codes "grace") words) _ _ (result_map_holds Says head.Next (grace_line settings words) (grace_line_holds settings words is)) (later_line_holds settings words is)
 

@@ -93,6 +93,13 @@ refused_one laws n (event.Cql request) a b g h = g.2 ∙ (ap (refused.Cql n) (on
 refused_one laws n (event.Deliver place) a b g h = absurd g
 refused_one laws n (event.Drop place) a b g h = absurd g
 refused_one laws n (event.Settle count) a b g h = absurd g
+refused_one laws n (event.Clock node micros) a b g h = absurd g
+refused_one laws n (event.Crash node outcome) a b g h = absurd g
+refused_one laws n (event.StopAt node call outcome) a b g h = absurd g
+refused_one laws n (event.FailAt node call) a b g h = absurd g
+refused_one laws n (event.Restart node) a b g h = absurd g
+refused_one laws n (event.Flush node) a b g h = absurd g
+refused_one laws n (event.Merge node) a b g h = absurd g
 
 event_stops_one : CqlLaws → (reader : Reader) (r : Result ScriptEvent Fault) (a b : ScriptError) → EventStops reader r a → EventStops reader r b → a ≡ b
 event_stops_one laws reader (Ok event) a b g h = refused_one laws reader.number event a b g h
@@ -105,6 +112,13 @@ event_not_both laws reader (Ok (event.Cql request)) a e g s = not_both laws requ
 event_not_both laws reader (Ok (event.Deliver place)) a e g s = s
 event_not_both laws reader (Ok (event.Drop place)) a e g s = s
 event_not_both laws reader (Ok (event.Settle count)) a e g s = s
+event_not_both laws reader (Ok (event.Clock node micros)) a e g s = s
+event_not_both laws reader (Ok (event.Crash node outcome)) a e g s = s
+event_not_both laws reader (Ok (event.StopAt node call outcome)) a e g s = s
+event_not_both laws reader (Ok (event.FailAt node call)) a e g s = s
+event_not_both laws reader (Ok (event.Restart node)) a e g s = s
+event_not_both laws reader (Ok (event.Flush node)) a e g s = s
+event_not_both laws reader (Ok (event.Merge node)) a e g s = s
 event_not_both laws reader (Err f) a e g s = g
 
 -- ---- lines

@@ -19,15 +19,15 @@ use Rattle.fault_script.specs.declared.reader.Reader.{Reader}
 use Rattle.fault_script.specs.Lines.{head_line, event_at, is_skipped, lines_of}
 use Rattle.fault_script.specs.Written.{WrittenSchema}
 use Rattle.fault_script.specs.Script.{IsOneStatement, IsSaid, IsRead, IsReadBy, Reads, Goes, GoesBy, LineGoes, HeadGoes, EventGoes, made_of, end_of, script_with, longest_script, most_lines, first_reader}
-use Rattle.fault_script.specs.Laws.{HasRing, HasSchema, IsAtNodes, AreStatements}
-use Rattle.fault_script.proofs.HeadHolds.{IsFactor, Knows, Says, head_line_holds}
+use Rattle.fault_script.specs.Laws.{HasExpiry, HasRing, HasSchema, IsAtNodes, AreStatements}
+use Rattle.fault_script.proofs.HeadHolds.{AreSettings, Knows, Says, head_line_holds}
 use Rattle.fault_script.proofs.EventHolds.{event_at_holds}
 
 -- ---- what was read
 
 abbrev pub KnowsRing : Stage → Type 0
 KnowsRing (stage.Head next) = Knows next
-KnowsRing (stage.Events opening) = IsFactor opening.settings.ring opening.settings.factor
+KnowsRing (stage.Events opening) = AreSettings opening.settings.ring opening.settings.factor opening.settings.expiry
 
 -- the schema is what the statements make
 abbrev pub HasBook : Stage → List Statement → Type 0
@@ -103,6 +103,7 @@ goes_on reader line next holds goes =
 
 pub record IsScript (script : Script) : Type 0 where
   pub ring : HasRing script
+  pub expiry : HasExpiry script
   pub schema : HasSchema script
   pub nodes : All (IsAtNodes (length script.ring)) script.events
   pub said : All IsSaid script.events
@@ -111,6 +112,7 @@ ended : (many : Bool) (opening : Opening) (reader : Reader) → Holds (stage.Eve
 ended true opening reader holds = tt
 ended false opening reader holds = record {
   ring = record { ring = holds.ring.ring; some = holds.ring.some; few = holds.ring.few };
+  expiry = record { least = holds.ring.least; most = holds.ring.most };
   schema = record { statements = reader.written.statements; written = holds.texts; made = holds.book };
   nodes = holds.behind.0;
   said = holds.behind.1;

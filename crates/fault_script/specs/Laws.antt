@@ -19,6 +19,14 @@ pub record HasRing (script : Script) : Type 0 where
 abbrev pub ScriptsHaveARing : Type 0
 ScriptsHaveARing = (text : List ℕ) (script : Script) → IsRead text (Ok script) → HasRing script
 
+-- a message is too old after 1,000 to 100,000 seconds
+pub record HasExpiry (script : Script) : Type 0 where
+  pub least : 1000 ≤ script.expiry
+  pub most : script.expiry ≤ 100000
+
+abbrev pub ScriptsHaveAnExpiry : Type 0
+ScriptsHaveAnExpiry = (text : List ℕ) (script : Script) → IsRead text (Ok script) → HasExpiry script
+
 -- both ends of a message are among so many nodes
 abbrev pub IsBetweenNodes : ℕ → MessagePlace → Type 0
 IsBetweenNodes nodes place = (place.from < nodes) × (place.upto < nodes)
@@ -31,6 +39,13 @@ IsAtNodes nodes (event.Cql request) = request.node < nodes
 IsAtNodes nodes (event.Deliver place) = IsBetweenNodes nodes place
 IsAtNodes nodes (event.Drop place) = IsBetweenNodes nodes place
 IsAtNodes nodes (event.Settle count) = Unit {0}
+IsAtNodes nodes (event.Clock node micros) = node < nodes
+IsAtNodes nodes (event.Crash node outcome) = node < nodes
+IsAtNodes nodes (event.StopAt node call outcome) = node < nodes
+IsAtNodes nodes (event.FailAt node call) = node < nodes
+IsAtNodes nodes (event.Restart node) = node < nodes
+IsAtNodes nodes (event.Flush node) = node < nodes
+IsAtNodes nodes (event.Merge node) = node < nodes
 
 abbrev pub EventsAreAtNodes : Type 0
 EventsAreAtNodes = (text : List ℕ) (script : Script) → IsRead text (Ok script) → All (IsAtNodes (length script.ring)) script.events

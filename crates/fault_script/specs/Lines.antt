@@ -9,6 +9,8 @@ use Rattle.std.specs.Str.Lossy.{utf8_valid_len}
 use Rattle.std.specs.Str.Parse.{digits_value, signed_digits_value}
 use Rattle.cs_base.specs.declared.level.Level.{Level}
 use Rattle.cs_base.specs.declared.level.Level.TheVariants as level
+use Rattle.cs_store.specs.declared.mem_file.Outcome.{Outcome}
+use Rattle.cs_store.specs.declared.mem_file.Outcome.TheVariants.{Kept, Lost, Torn}
 use Rattle.fault_script.specs.declared.script.ScriptEvent.{ScriptEvent}
 use Rattle.fault_script.specs.declared.script.ScriptEvent.TheVariants as event
 use Rattle.fault_script.specs.declared.script.MessagePlace.{MessagePlace}
@@ -120,6 +122,14 @@ level_of word =
     else (if bytes_eq word (codes "LOCAL_SERIAL") then Some level.LocalSerial
     else (if bytes_eq word (codes "LOCAL_ONE") then Some level.LocalOne
     else None))))))))
+
+-- what a crash makes of the writes that were not synced, by its name
+abbrev pub outcome_of : List ℕ → Option Outcome
+outcome_of word =
+    if bytes_eq word (codes "kept") then Some Kept
+    else (if bytes_eq word (codes "lost") then Some Lost
+    else (if bytes_eq word (codes "torn") then Some Torn
+    else None))
 
 -- what words give that are understood, or refused by this fault: a value, where their numbers and their level are in range
 abbrev pub understood : {T : Type 0} → Fault → Bool → Option T → Result T Fault
@@ -265,15 +275,81 @@ abbrev pub settle_line : List (List ℕ) → Result ScriptEvent Fault
 settle_line (count ∷ []) = understood fault.Line (is_number count) (option_map event.Settle (number_within 1 100000 count))
 settle_line words = Err fault.Line
 
-abbrev pub event_line : ℕ → List (List ℕ) → Result ScriptEvent Fault
-event_line nodes [] = Err fault.Line
-event_line nodes (word ∷ words) =
+-- ---- what happens to a node
+
+abbrev pub named_node : ℕ → List ℕ → Result ℕ Fault
+named_node nodes word = understood fault.Line (is_number word) (node_of nodes word)
+
+abbrev pub pair_of : Option ℕ → Option ℕ → Option (ℕ × ℕ)
+pair_of (Some node) (Some number) = Some (node, number)
+pair_of _ _ = None
+
+-- a node, and a number from `least` to `most`
+abbrev pub named_pair : ℕ → ℕ → ℕ → List ℕ → List ℕ → Result (ℕ × ℕ) Fault
+named_pair nodes least most node number =
+    understood fault.Line (is_number node && is_number number) (pair_of (node_of nodes node) (number_within least most number))
+
+abbrev pub node_line : ℕ → List (List ℕ) → Result ℕ Fault
+node_line nodes (node ∷ []) = named_node nodes node
+node_line nodes words = Err fault.Line
+
+abbrev pub pair_line : ℕ → ℕ → ℕ → List (List ℕ) → Result (ℕ × ℕ) Fault
+pair_line nodes least most (node ∷ number ∷ []) = named_pair nodes least most node number
+pair_line nodes least most words = Err fault.Line
+
+abbrev pub clock_at : ℕ × ℕ → ScriptEvent
+clock_at pair = event.Clock pair.0 pair.1
+
+abbrev pub clock_line : ℕ → List (List ℕ) → Result ScriptEvent Fault
+clock_line nodes words = result_map clock_at (pair_line nodes 0 (2 ^ 64 - 1) words)
+
+-- an outcome that is none is a wrong word
+abbrev pub crash_of : Option Outcome → Result ℕ Fault → Result ScriptEvent Fault
+crash_of None node = Err fault.Line
+crash_of (Some outcome) node = result_map (λ n. event.Crash n outcome) node
+
+abbrev pub crash_line : ℕ → List (List ℕ) → Result ScriptEvent Fault
+crash_line nodes (node ∷ outcome ∷ []) = crash_of (outcome_of outcome) (named_node nodes node)
+crash_line nodes words = Err fault.Line
+
+abbrev pub stop_of : Option Outcome → Result (ℕ × ℕ) Fault → Result ScriptEvent Fault
+stop_of None pair = Err fault.Line
+stop_of (Some outcome) pair = result_map (λ (p : ℕ × ℕ). event.StopAt p.0 p.1 outcome) pair
+
+-- calls of a store are counted from 1 on
+abbrev pub stop_line : ℕ → List (List ℕ) → Result ScriptEvent Fault
+stop_line nodes (node ∷ call ∷ outcome ∷ []) = stop_of (outcome_of outcome) (named_pair nodes 1 4294967295 node call)
+stop_line nodes words = Err fault.Line
+
+abbrev pub fail_at : ℕ × ℕ → ScriptEvent
+fail_at pair = event.FailAt pair.0 pair.1
+
+abbrev pub fail_line : ℕ → List (List ℕ) → Result ScriptEvent Fault
+fail_line nodes words = result_map fail_at (pair_line nodes 1 4294967295 words)
+
+abbrev pub node_event : ℕ → List ℕ → List (List ℕ) → Result ScriptEvent Fault
+node_event nodes word words =
+    if bytes_eq word (codes "clock") then clock_line nodes words
+    else (if bytes_eq word (codes "crash") then crash_line nodes words
+    else (if bytes_eq word (codes "stopat") then stop_line nodes words
+    else (if bytes_eq word (codes "failat") then fail_line nodes words
+    else (if bytes_eq word (codes "restart") then result_map event.Restart (node_line nodes words)
+    else (if bytes_eq word (codes "flush") then result_map event.Flush (node_line nodes words)
+    else (if bytes_eq word (codes "merge") then result_map event.Merge (node_line nodes words)
+    else Err fault.Line))))))
+
+abbrev pub word_line : ℕ → List ℕ → List (List ℕ) → Result ScriptEvent Fault
+word_line nodes word words =
     if bytes_eq word (codes "put") then put_line nodes words
     else (if bytes_eq word (codes "get") then get_line nodes words
     else (if bytes_eq word (codes "deliver") then result_map event.Deliver (message_line nodes words)
     else (if bytes_eq word (codes "drop") then result_map event.Drop (message_line nodes words)
     else (if bytes_eq word (codes "settle") then settle_line words
-    else Err fault.Line))))
+    else node_event nodes word words))))
+
+abbrev pub event_line : ℕ → List (List ℕ) → Result ScriptEvent Fault
+event_line nodes [] = Err fault.Line
+event_line nodes (word ∷ words) = word_line nodes word words
 
 -- ---- events with a statement
 

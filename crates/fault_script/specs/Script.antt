@@ -99,6 +99,13 @@ IsSaid (event.Cql request) = (s : Statement) × IsOneStatement request.text s
 IsSaid (event.Deliver place) = Unit {0}
 IsSaid (event.Drop place) = Unit {0}
 IsSaid (event.Settle count) = Unit {0}
+IsSaid (event.Clock node micros) = Unit {0}
+IsSaid (event.Crash node outcome) = Unit {0}
+IsSaid (event.StopAt node call outcome) = Unit {0}
+IsSaid (event.FailAt node call) = Unit {0}
+IsSaid (event.Restart node) = Unit {0}
+IsSaid (event.Flush node) = Unit {0}
+IsSaid (event.Merge node) = Unit {0}
 
 abbrev pub EventGoes : Reader → Result ScriptEvent Fault → Reader → Type 0
 EventGoes reader (Ok event) read = IsSaid event × (read ≡ with_event reader event)
@@ -156,6 +163,13 @@ IsRefusedEvent n (event.Cql request) e = IsRefusedCql n request.text e
 IsRefusedEvent n (event.Deliver place) e = ⊥
 IsRefusedEvent n (event.Drop place) e = ⊥
 IsRefusedEvent n (event.Settle count) e = ⊥
+IsRefusedEvent n (event.Clock node micros) e = ⊥
+IsRefusedEvent n (event.Crash node outcome) e = ⊥
+IsRefusedEvent n (event.StopAt node call outcome) e = ⊥
+IsRefusedEvent n (event.FailAt node call) e = ⊥
+IsRefusedEvent n (event.Restart node) e = ⊥
+IsRefusedEvent n (event.Flush node) e = ⊥
+IsRefusedEvent n (event.Merge node) e = ⊥
 
 abbrev pub EventStops : Reader → Result ScriptEvent Fault → ScriptError → Type 0
 EventStops reader (Ok event) e = IsRefusedEvent reader.number event e

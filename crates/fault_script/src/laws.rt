@@ -1,10 +1,15 @@
 //! Laws of scripts, which each call of a function of this module gives to its caller.
 
-ghost use Rattle.fault_script.specs.Laws.{EventsAreAtNodes, OneReading, ScriptsHaveARing, ScriptsHaveTheirSchema, StatementsAreRead};
+ghost use Rattle.fault_script.specs.Laws.{EventsAreAtNodes, OneReading, ScriptsHaveAnExpiry, ScriptsHaveARing, ScriptsHaveTheirSchema, StatementsAreRead};
 
 /// The tokens of a script are a ring, and its factor is one that the ring has.
 pub fn scripts_have_a_ring()
     ensures { ScriptsHaveARing }
+{}
+
+/// The time after which a script's messages are too old is within its bounds.
+pub fn scripts_have_an_expiry()
+    ensures { ScriptsHaveAnExpiry }
 {}
 
 /// The nodes that a script names are nodes of its ring.

@@ -1,11 +1,12 @@
-//! The numbers of a script, its nodes and its levels.
+//! The numbers of a script, its nodes, its levels and its outcomes of crashes.
 
 ghost use Rattle.std.specs.Prelude.{◌≡◌, ◌≤◌, true, false, IsTrue, IfSome, MatchOption};
 ghost use Rattle.std.specs.Char.{is_ascii_digit};
 ghost use Rattle.std.specs.List.{list_all};
-ghost use Rattle.fault_script.specs.Lines.{is_number as is_number_word, is_signed_number as is_signed_word, within as within_bounds, number_within as number_of, node_of as node_of_word, level_of as level_of_word, signed_value, is_long_word};
+ghost use Rattle.fault_script.specs.Lines.{is_number as is_number_word, is_signed_number as is_signed_word, within as within_bounds, number_within as number_of, node_of as node_of_word, level_of as level_of_word, outcome_of as outcome_of_word, signed_value, is_long_word};
 
 use cs_base::{Level, NodeId};
+use cs_store::Outcome;
 
 fn all_digits(word: &[u8]) -> bool
     ensures { result ≡ list_all is_ascii_digit word.now }
@@ -85,6 +86,18 @@ pub fn level_of(word: &str) -> Option<Level>
         "SERIAL" => Some(Level::Serial),
         "LOCAL_SERIAL" => Some(Level::LocalSerial),
         "LOCAL_ONE" => Some(Level::LocalOne),
+        _ => None,
+    }
+}
+
+/// What a crash makes of the writes that were not synced, by its name.
+pub fn outcome_of(word: &str) -> Option<Outcome>
+    ensures { result ≡ outcome_of_word word.now }
+{
+    match word {
+        "kept" => Some(Outcome::Kept),
+        "lost" => Some(Outcome::Lost),
+        "torn" => Some(Outcome::Torn),
         _ => None,
     }
 }

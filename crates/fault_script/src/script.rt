@@ -3,7 +3,8 @@
 ghost use Rattle.std.specs.Prelude.{◌≡◌};
 ghost use Rattle.fault_script.specs.declared.script.LineError.TheVariants.{Fault as LineFault, NoMemory as LineMemory};
 
-use cs_base::{Items, Level, NodeId, Text};
+use cs_base::{Items, Level, Micros, NodeId, Text};
+use cs_store::Outcome;
 use schema_book::Schema;
 use std::alloc::AllocError;
 use thiserror::Error;
@@ -43,6 +44,20 @@ pub enum ScriptEvent {
     Drop(MessagePlace),
     /// So many times, from 1 to 100,000, delivers the oldest message that was neither delivered nor dropped.
     Settle(u32),
+    /// Sets a node's clock, which tells this time from then on, and gives the node a step.
+    Clock(NodeId, Micros),
+    /// Stops a node between two steps. This is what becomes of the writes that it has not synced.
+    Crash(NodeId, Outcome),
+    /// Stops a node at this call of its store, from 1 on, when the call's effect is not synced yet.
+    StopAt(NodeId, u32, Outcome),
+    /// Lets this call of a node's store fail, from 1 on.
+    FailAt(NodeId, u32),
+    /// Loads a node. One that runs is left alone.
+    Restart(NodeId),
+    /// Has a node write what it keeps in memory as a table.
+    Flush(NodeId),
+    /// Has a node merge tables.
+    Merge(NodeId),
 }
 
 /// A line `put`: it sets the column `v` of a row of `script.kv`.

@@ -14,12 +14,11 @@ use Rattle.cql_values.specs.declared.value.CqlValue.{CqlValue}
 use Rattle.schema_book.specs.declared.table.ColumnDef.{ColumnDef}
 use Rattle.schema_book.specs.declared.table.ColumnKind.{ColumnKind}
 use Rattle.schema_book.specs.declared.table.ColumnKind.TheVariants.{Partition, Clustering, Regular}
-use Rattle.statement_values.specs.declared.supplied.Supplied.TheVariants.{Value}
 use Rattle.key_restrictions.specs.declared.restriction.Restriction.{Restriction}
 use Rattle.key_restrictions.specs.Operators.{is_equal, is_lower, is_upper}
 use Rattle.key_restrictions.specs.Places.{is_partition, is_key, is_clustering, is_of_kind, is_key_at, fixes, bounds_below, bounds_above, is_fixed, fixing, lower_bound, upper_bound}
 use Rattle.key_restrictions.specs.Checks.{fixed_times, lower_times, upper_times, is_fixed_twice, is_twice_at, is_twice_from, is_other}
-use Rattle.key_restrictions.specs.Laws.{is_met, is_met_in, order_with, meets, NameRows, IsRow}
+use Rattle.key_restrictions.specs.Laws.{is_met, is_met_in, meets, NameRows, IsRow}
 use Rattle.key_restrictions.proofs.Lookups.{or_parts, found, none_passes, some_count, lone_found}
 
 pub and_parts : (a b : Bool) → (a && b) ≡ true → (a ≡ true) × (b ≡ true)
@@ -44,7 +43,7 @@ itself a b h = grind (arith, nat_tests)
 
 -- ---- columns that do not stand twice
 
-pub record StandsOnce (rs : List Restriction) (place : ℕ) : Type 0 where
+pub record StandsOnce (rs : List (Restriction CqlValue)) (place : ℕ) : Type 0 where
   pub fixed : fixed_times rs place ≤ 1
   pub lower : lower_times rs place ≤ 1
   pub upper : upper_times rs place ≤ 1
@@ -56,7 +55,7 @@ no_bound f l u h some =
     let parts = or_parts (nat_lt 0 l) (nat_lt 0 u) (and_false (nat_lt 0 f) (nat_lt 0 l || nat_lt 0 u) h (above_zero f some)) in
     (below_zero l parts.0, below_zero u parts.1)
 
-stands_once : (rs : List Restriction) (place : ℕ) → is_twice_at rs place ≡ false → StandsOnce rs place
+stands_once : (rs : List (Restriction CqlValue)) (place : ℕ) → is_twice_at rs place ≡ false → StandsOnce rs place
 stands_once rs place h =
     let f = fixed_times rs place in
     let l = lower_times rs place in
@@ -72,7 +71,7 @@ stands_once rs place h =
       no_upper = λ some. (no_bound f l u fixed.1 some).1;
     }
 
-not_twice : (rs : List Restriction) (start : ℕ) (ds : List ColumnDef) (i : ℕ) (d : ColumnDef) → is_twice_from rs start ds ≡ false
+not_twice : (rs : List (Restriction CqlValue)) (start : ℕ) (ds : List ColumnDef) (i : ℕ) (d : ColumnDef) → is_twice_from rs start ds ≡ false
     → slice_get ds i ≡ Some d → is_key d.kind ≡ true → is_twice_at rs (start + i) ≡ false
 not_twice rs start [] i d h at key = absurd (cc)
 not_twice rs start (e ∷ es) zero d h at key =
@@ -84,7 +83,7 @@ not_twice rs start (e ∷ es) (suc i) d h at key =
     let parts = or_parts (is_key e.kind && is_twice_at rs start) (is_twice_from rs (start + 1) es) h in
     ap (λ (n : ℕ). is_twice_at rs n) (let n : start + suc i ≡ (start + 1) + i = omega arith in n) ∙ not_twice rs (start + 1) es i d parts.1 at key
 
-pub once_at : (columns : List ColumnDef) (rs : List Restriction) → NameRows columns rs → (place : ℕ) (d : ColumnDef)
+pub once_at : (columns : List ColumnDef) (rs : List (Restriction CqlValue)) → NameRows columns rs → (place : ℕ) (d : ColumnDef)
     → slice_get columns place ≡ Some d → d.kind ≡ Clustering → StandsOnce rs place
 once_at columns rs named place d at kind =
     stands_once rs place
@@ -105,19 +104,19 @@ side_of operators.Greater = lower refl
 side_of operators.GreaterOrEqual = lower refl
 
 -- it is on the column, and on the side
-on_side : (side : RelationOperator → Bool) (place : ℕ) (r : Restriction) → r.column ≡ place → side r.operator ≡ true
+on_side : (side : RelationOperator → Bool) (place : ℕ) (r : Restriction CqlValue) → r.column ≡ place → side r.operator ≡ true
     → (eqb r.column place && side r.operator) ≡ true
 on_side side place r column is = (λ i. itself r.column place column i && side r.operator) ∙ is
 
-pub column_of : (side : RelationOperator → Bool) (place : ℕ) (r : Restriction) → (eqb r.column place && side r.operator) ≡ true
+pub column_of : (side : RelationOperator → Bool) (place : ℕ) (r : Restriction CqlValue) → (eqb r.column place && side r.operator) ≡ true
     → (r.column ≡ place) × (side r.operator ≡ true)
 column_of side place r h =
     let parts = and_parts (eqb r.column place) (side r.operator) h in
     (eqb-true r.column place parts.0, parts.1)
 
 -- a column that is fixed has one relation
-pub fixed_is : (rs : List Restriction) (place : ℕ) (f : Restriction) → StandsOnce rs place → fixing rs place ≡ Some f
-    → (i : ℕ) (r : Restriction) → slice_get rs i ≡ Some r → r.column ≡ place → r ≡ f
+pub fixed_is : (rs : List (Restriction CqlValue)) (place : ℕ) (f : Restriction CqlValue) → StandsOnce rs place → fixing rs place ≡ Some f
+    → (i : ℕ) (r : Restriction CqlValue) → slice_get rs i ≡ Some r → r.column ≡ place → r ≡ f
 fixed_is rs place f once is i r at column = go (side_of r.operator)
   where
     go : Side r.operator → r ≡ f
@@ -136,8 +135,8 @@ fixed_is rs place f once is i r at column = go (side_of r.operator)
         absurd (omega (arith, none, other))
 
 -- and one that is not has its bounds
-pub bound_is : (rs : List Restriction) (place : ℕ) → StandsOnce rs place → is_fixed rs place ≡ false
-    → (i : ℕ) (r : Restriction) → slice_get rs i ≡ Some r → r.column ≡ place → (lower_bound rs place ≡ Some r) ⊎ (upper_bound rs place ≡ Some r)
+pub bound_is : (rs : List (Restriction CqlValue)) (place : ℕ) → StandsOnce rs place → is_fixed rs place ≡ false
+    → (i : ℕ) (r : Restriction CqlValue) → slice_get rs i ≡ Some r → r.column ≡ place → (lower_bound rs place ≡ Some r) ⊎ (upper_bound rs place ≡ Some r)
 bound_is rs place once free i r at column = go (side_of r.operator)
   where
     go : Side r.operator → (lower_bound rs place ≡ Some r) ⊎ (upper_bound rs place ≡ Some r)
@@ -150,37 +149,33 @@ bound_is rs place once free i r at column = go (side_of r.operator)
 
 -- ---- the value of a row and that of a relation
 
-pub record Compared (w : CqlValue) (r : Restriction) : Type 0 where
-  pub value : CqlValue
-  pub supplied : r.value ≡ Value value
-  pub fits : IsValue value
+pub record Compared (w : CqlValue) (r : Restriction CqlValue) : Type 0 where
+  pub fits : IsValue r.value
   pub row_fits : IsValue w
   pub order : Ordering
-  pub ordered : value_order w value ≡ Some order
+  pub ordered : value_order w r.value ≡ Some order
 
 some_of : {A : Type 0} (o : Option A) → is_some o ≡ true → (x : A) × (o ≡ Some x)
 some_of None h = absurd (cc)
 some_of (Some x) h = (x, refl)
 
-pub compared : ComparesTypes → (columns : List ColumnDef) (rs : List Restriction) (row : ℕ → CqlValue) → NameRows columns rs → IsRow columns row
-    → (i : ℕ) (r : Restriction) (place : ℕ) (d : ColumnDef) → slice_get rs i ≡ Some r → r.column ≡ place → slice_get columns place ≡ Some d → d.kind ≡ Clustering
+pub compared : ComparesTypes → (columns : List ColumnDef) (rs : List (Restriction CqlValue)) (row : ℕ → CqlValue) → NameRows columns rs → IsRow columns row
+    → (i : ℕ) (r : Restriction CqlValue) (place : ℕ) (d : ColumnDef) → slice_get rs i ≡ Some r → r.column ≡ place → slice_get columns place ≡ Some d → d.kind ≡ Clustering
     → Compared (row place) r
 compared compares columns rs row named is_row i r place d stands column at kind =
     let typed = named.typed i r d stands (ap (slice_get columns) column ∙ at) in
     let here = is_row place d at kind in
-    let some = compares (row place) typed.0 (here.0.0 ∙ sym typed.2.0) (λ e. here.1 (sym here.0.0 ∙ e)) in
-    let order = some_of (value_order (row place) typed.0) some in
+    let some = compares (row place) r.value (here.0.0 ∙ sym typed.0) (λ e. here.1 (sym here.0.0 ∙ e)) in
+    let order = some_of (value_order (row place) r.value) some in
     record {
-      value = typed.0;
-      supplied = typed.1;
-      fits = typed.2.1;
+      fits = typed.1;
       row_fits = here.0.1;
       order = order.0;
       ordered = order.1;
     }
 
-pub meets_is : (w : CqlValue) (r : Restriction) (c : Compared w r) → meets w r ≡ is_met r.operator c.order
-meets_is w r c = ap (λ s. is_met_in r.operator (order_with w s)) c.supplied ∙ ap (is_met_in r.operator) c.ordered
+pub meets_is : (w : CqlValue) (r : Restriction CqlValue) (c : Compared w r) → meets w r ≡ is_met r.operator c.order
+meets_is w r c = ap (is_met_in r.operator) c.ordered
 
 pub meets_equal : (operator : RelationOperator) (o : Ordering) → is_equal operator ≡ true → is_met operator o ≡ is_eq o
 meets_equal operators.Equal o e = refl
@@ -196,7 +191,7 @@ not_free true h = refl
 not_free false h = absurd (cc)
 
 -- each relation is on a column of the key
-pub on_key : (columns : List ColumnDef) (rs : List Restriction) → NameRows columns rs → (i : ℕ) (r : Restriction) → slice_get rs i ≡ Some r
+pub on_key : (columns : List ColumnDef) (rs : List (Restriction CqlValue)) → NameRows columns rs → (i : ℕ) (r : Restriction CqlValue) → slice_get rs i ≡ Some r
     → is_key_at columns r.column ≡ true
 on_key columns rs named i r stands = not_free (is_key_at columns r.column) (none_passes (is_other columns) rs i r named.of_key stands)
 

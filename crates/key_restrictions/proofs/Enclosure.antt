@@ -17,7 +17,7 @@ use Rattle.key_restrictions.specs.declared.restriction.Restriction.{Restriction}
 use Rattle.key_restrictions.specs.Operators.{is_lower, is_upper, is_strict}
 use Rattle.key_restrictions.specs.Places.{is_clustering, is_key, is_of_kind, is_partition_at, is_key_at, is_clustering_at, is_fixed, bounds_below, bounds_above, lower_bound, upper_bound, open_place, open_from}
 use Rattle.key_restrictions.specs.Checks.{bounds_partition, is_behind, is_on_row}
-use Rattle.key_restrictions.specs.Rows.{word_of, prefix_bytes, falls_at, falls_open, first_bound, last_bound, begin_at, end_at, from_of, upto_of}
+use Rattle.key_restrictions.specs.Rows.{prefix_bytes, falls_at, falls_open, first_bound, last_bound, begin_at, end_at, from_of, upto_of}
 use Rattle.key_restrictions.specs.Laws.{is_met, meets, NameRows, IsRow, bytes_from, row_bytes, MeetsAll, BoundsEncloseRows}
 use Rattle.key_restrictions.proofs.Lookups.{or_parts, found, none_passes, head_at, left_next}
 use Rattle.key_restrictions.proofs.Columns.{and_false, column_of, once_at, fixed_is, bound_is, Compared, compared, meets_is, on_key, clustering_of, clustering_at}
@@ -26,21 +26,21 @@ use Rattle.key_restrictions.proofs.Fronts.{Same, Front, same, apart, front_from}
 
 -- ---- what stands behind the bytes of the columns that are fixed
 
-abbrev begin_signs : Bool → Option Restriction → List (ℕ × ℕ)
+abbrev begin_signs : Bool → Option (Restriction CqlValue) → List (ℕ × ℕ)
 begin_signs falls None = (0, 0) ∷ []
-begin_signs falls (Some r) = signs (word_of falls r.value) (end_of (is_strict r.operator))
+begin_signs falls (Some r) = signs (order_word falls r.value) (end_of (is_strict r.operator))
 
-abbrev end_signs : Bool → Option Restriction → List (ℕ × ℕ)
+abbrev end_signs : Bool → Option (Restriction CqlValue) → List (ℕ × ℕ)
 end_signs falls None = (3, 0) ∷ []
-end_signs falls (Some r) = signs (word_of falls r.value) (end_of (not (is_strict r.operator)))
+end_signs falls (Some r) = signs (order_word falls r.value) (end_of (not (is_strict r.operator)))
 
-begin_is : (prefix : List ℕ) (falls : Bool) (b : Option Restriction) → bound_signs (begin_at prefix falls b) ≡ map byte_sign prefix ++ begin_signs falls b
+begin_is : (prefix : List ℕ) (falls : Bool) (b : Option (Restriction CqlValue)) → bound_signs (begin_at prefix falls b) ≡ map byte_sign prefix ++ begin_signs falls b
 begin_is prefix falls None = refl
-begin_is prefix falls (Some r) = signs_append prefix (word_of falls r.value) (end_of (is_strict r.operator))
+begin_is prefix falls (Some r) = signs_append prefix (order_word falls r.value) (end_of (is_strict r.operator))
 
-end_is : (prefix : List ℕ) (falls : Bool) (b : Option Restriction) → bound_signs (end_at prefix falls b) ≡ map byte_sign prefix ++ end_signs falls b
+end_is : (prefix : List ℕ) (falls : Bool) (b : Option (Restriction CqlValue)) → bound_signs (end_at prefix falls b) ≡ map byte_sign prefix ++ end_signs falls b
 end_is prefix falls None = refl
-end_is prefix falls (Some r) = signs_append prefix (word_of falls r.value) (end_of (not (is_strict r.operator)))
+end_is prefix falls (Some r) = signs_append prefix (order_word falls r.value) (end_of (not (is_strict r.operator)))
 
 -- ---- one bound
 
@@ -95,7 +95,7 @@ last_met false operators.Greater o h = absurd (cc)
 last_met false operators.GreaterOrEqual o h = absurd (cc)
 
 -- a relation that bounds the first column that is not fixed
-record Bounds (columns : List ColumnDef) (rs : List Restriction) (place : ℕ) (r : Restriction) : Type 0 where
+record Bounds (columns : List ColumnDef) (rs : List (Restriction CqlValue)) (place : ℕ) (r : Restriction CqlValue) : Type 0 where
   index : ℕ
   stands : slice_get rs index ≡ Some r
   column : r.column ≡ place
@@ -103,7 +103,7 @@ record Bounds (columns : List ColumnDef) (rs : List Restriction) (place : ℕ) (
   here : slice_get columns place ≡ Some def
   kind : def.kind ≡ Clustering
 
-bounds : (columns : List ColumnDef) (rs : List Restriction) → NameRows columns rs → (i : ℕ) (r : Restriction) → slice_get rs i ≡ Some r
+bounds : (columns : List ColumnDef) (rs : List (Restriction CqlValue)) → NameRows columns rs → (i : ℕ) (r : Restriction CqlValue) → slice_get rs i ≡ Some r
     → r.column ≡ open_place columns rs → Bounds columns rs (open_place columns rs) r
 bounds columns rs named i r stands column =
     let place = open_place columns rs in
@@ -112,7 +112,7 @@ bounds columns rs named i r stands column =
     let c = clustering_of (slice_get columns place) key away in
     record { index = i; stands = stands; column = column; def = c.0; here = c.1; kind = c.2 }
 
-first_bounds : (columns : List ColumnDef) (rs : List Restriction) → NameRows columns rs → (falls : Bool) (r : Restriction)
+first_bounds : (columns : List ColumnDef) (rs : List (Restriction CqlValue)) → NameRows columns rs → (falls : Bool) (r : Restriction CqlValue)
     → first_bound falls rs (open_place columns rs) ≡ Some r → Bounds columns rs (open_place columns rs) r × (is_first falls r.operator ≡ true)
 first_bounds columns rs named true r h =
     let place = open_place columns rs in
@@ -125,7 +125,7 @@ first_bounds columns rs named false r h =
     let parts = column_of is_lower place r p.passes in
     (bounds columns rs named p.place r p.stands parts.0, parts.1)
 
-last_bounds : (columns : List ColumnDef) (rs : List Restriction) → NameRows columns rs → (falls : Bool) (r : Restriction)
+last_bounds : (columns : List ColumnDef) (rs : List (Restriction CqlValue)) → NameRows columns rs → (falls : Bool) (r : Restriction CqlValue)
     → last_bound falls rs (open_place columns rs) ≡ Some r → Bounds columns rs (open_place columns rs) r × (is_last falls r.operator ≡ true)
 last_bounds columns rs named true r h =
     let place = open_place columns rs in
@@ -155,9 +155,9 @@ row_end row true = before_last row
 row_end row false = behind_first row
 
 -- a row and the word of a bound
-bound_cmp : KeepsOrder → ComparesTypes → (columns : List ColumnDef) (rs : List Restriction) (row : ℕ → CqlValue) → NameRows columns rs → IsRow columns row
-    → (place : ℕ) (r : Restriction) → Bounds columns rs place r → (falls : Bool) → falls ≡ falls_at (slice_get columns place) → (b : Bool)
-    → (c : Compared (row place) r) × (signs_cmp (signs (bytes_from row place (drop place columns)) 1) (signs (word_of falls r.value) (end_of b))
+bound_cmp : KeepsOrder → ComparesTypes → (columns : List ColumnDef) (rs : List (Restriction CqlValue)) (row : ℕ → CqlValue) → NameRows columns rs → IsRow columns row
+    → (place : ℕ) (r : Restriction CqlValue) → Bounds columns rs place r → (falls : Bool) → falls ≡ falls_at (slice_get columns place) → (b : Bool)
+    → (c : Compared (row place) r) × (signs_cmp (signs (bytes_from row place (drop place columns)) 1) (signs (order_word falls r.value) (end_of b))
     ≡ ordering_then (directed falls c.order) (cond b Less Greater))
 bound_cmp keeps compares columns rs row named is_row place r bound falls turned b =
     let d = bound.def in
@@ -167,14 +167,14 @@ bound_cmp keeps compares columns rs row named is_row place r bound falls turned 
     let bytes : bytes_from row place (drop place columns) ≡ order_word falls (row place) ++ front.0 =
     front.1 ∙ ap (λ (f : Bool). order_word f (row place) ++ front.0) desc in (
       c,
-      (λ i. signs_cmp ((ap (λ (l : List ℕ). signs l 1) bytes ∙ signs_append (order_word falls (row place)) front.0 1) i) (signs (word_of falls (c.supplied i)) (end_of b)))
-          ∙ (words_decide keeps falls (row place) c.value c.order c.row_fits c.fits c.ordered (signs front.0 1) ((end_of b, 0) ∷ [])
+      (λ i. signs_cmp ((ap (λ (l : List ℕ). signs l 1) bytes ∙ signs_append (order_word falls (row place)) front.0 1) i) (signs (order_word falls r.value) (end_of b)))
+          ∙ (words_decide keeps falls (row place) r.value c.order c.row_fits c.fits c.ordered (signs front.0 1) ((end_of b, 0) ∷ [])
           ∙ ap (λ (o : Ordering). ordering_then (directed falls c.order) o) (row_end front.0 b)),
     )
 
 -- ---- the row meets a bound, where there is one
 
-abbrev MeetsBound : CqlValue → Option Restriction → Type 0
+abbrev MeetsBound : CqlValue → Option (Restriction CqlValue) → Type 0
 MeetsBound w None = Unit {0}
 MeetsBound w (Some r) = meets w r ≡ true
 
@@ -192,8 +192,8 @@ less_is Greater = (λ e. absurd (cc), λ e. absurd (cc))
 abbrev tail_signs : List ColumnDef → (ℕ → CqlValue) → ℕ → List (ℕ × ℕ)
 tail_signs columns row place = signs (bytes_from row place (drop place columns)) 1
 
-begin_met : KeepsOrder → ComparesTypes → (columns : List ColumnDef) (rs : List Restriction) (row : ℕ → CqlValue) → NameRows columns rs → IsRow columns row
-    → (b : Option Restriction) → first_bound (falls_open columns rs) rs (open_place columns rs) ≡ b
+begin_met : KeepsOrder → ComparesTypes → (columns : List ColumnDef) (rs : List (Restriction CqlValue)) (row : ℕ → CqlValue) → NameRows columns rs → IsRow columns row
+    → (b : Option (Restriction CqlValue)) → first_bound (falls_open columns rs) rs (open_place columns rs) ≡ b
     → (signs_cmp (tail_signs columns row (open_place columns rs)) (begin_signs (falls_open columns rs) b) ≡ Greater) ↔ MeetsBound (row (open_place columns rs)) b
 begin_met keeps compares columns rs row named is_row None e = (λ h. tt, λ h. behind_first (bytes_from row (open_place columns rs) (drop (open_place columns rs) columns)))
 begin_met keeps compares columns rs row named is_row (Some r) e =
@@ -202,12 +202,12 @@ begin_met keeps compares columns rs row named is_row (Some r) e =
     let first = first_bounds columns rs named falls r e in
     let both = bound_cmp keeps compares columns rs row named is_row place r first.0 falls refl (is_strict r.operator) in
     let order = both.0.order in
-    let found_order = signs_cmp (tail_signs columns row place) (signs (word_of falls r.value) (end_of (is_strict r.operator))) in
+    let found_order = signs_cmp (tail_signs columns row place) (signs (order_word falls r.value) (end_of (is_strict r.operator))) in
     let test : is_gt found_order ≡ meets (row place) r = ap is_gt both.1 ∙ (first_met falls r.operator order first.1 ∙ sym (meets_is (row place) r both.0)) in
     (λ h. sym test ∙ (greater_is found_order).0 h, λ h. (greater_is found_order).1 (test ∙ h))
 
-end_met : KeepsOrder → ComparesTypes → (columns : List ColumnDef) (rs : List Restriction) (row : ℕ → CqlValue) → NameRows columns rs → IsRow columns row
-    → (b : Option Restriction) → last_bound (falls_open columns rs) rs (open_place columns rs) ≡ b
+end_met : KeepsOrder → ComparesTypes → (columns : List ColumnDef) (rs : List (Restriction CqlValue)) (row : ℕ → CqlValue) → NameRows columns rs → IsRow columns row
+    → (b : Option (Restriction CqlValue)) → last_bound (falls_open columns rs) rs (open_place columns rs) ≡ b
     → (signs_cmp (tail_signs columns row (open_place columns rs)) (end_signs (falls_open columns rs) b) ≡ Less) ↔ MeetsBound (row (open_place columns rs)) b
 end_met keeps compares columns rs row named is_row None e = (λ h. tt, λ h. before_last (bytes_from row (open_place columns rs) (drop (open_place columns rs) columns)))
 end_met keeps compares columns rs row named is_row (Some r) e =
@@ -216,29 +216,29 @@ end_met keeps compares columns rs row named is_row (Some r) e =
     let last = last_bounds columns rs named falls r e in
     let both = bound_cmp keeps compares columns rs row named is_row place r last.0 falls refl (not (is_strict r.operator)) in
     let order = both.0.order in
-    let found_order = signs_cmp (tail_signs columns row place) (signs (word_of falls r.value) (end_of (not (is_strict r.operator)))) in
+    let found_order = signs_cmp (tail_signs columns row place) (signs (order_word falls r.value) (end_of (not (is_strict r.operator)))) in
     let test : is_lt found_order ≡ meets (row place) r = ap is_lt both.1 ∙ (last_met falls r.operator order last.1 ∙ sym (meets_is (row place) r both.0)) in
     (λ h. sym test ∙ (less_is found_order).0 h, λ h. (less_is found_order).1 (test ∙ h))
 
-on_row_is : (columns : List ColumnDef) (rs : List Restriction) (place : ℕ) (r : Restriction) → Bounds columns rs place r → is_on_row columns r ≡ true
+on_row_is : (columns : List ColumnDef) (rs : List (Restriction CqlValue)) (place : ℕ) (r : Restriction CqlValue) → Bounds columns rs place r → is_on_row columns r ≡ true
 on_row_is columns rs place r b = ap (is_clustering_at columns) b.column ∙ (ap (is_of_kind is_clustering) b.here ∙ ap is_clustering b.kind)
 
 -- where a row meets all, it meets the bound
-bound_met : (columns : List ColumnDef) (rs : List Restriction) (row : ℕ → CqlValue) → MeetsAll columns rs row → (place : ℕ) (b : Option Restriction)
-    → ((r : Restriction) → b ≡ Some r → Bounds columns rs place r) → MeetsBound (row place) b
+bound_met : (columns : List ColumnDef) (rs : List (Restriction CqlValue)) (row : ℕ → CqlValue) → MeetsAll columns rs row → (place : ℕ) (b : Option (Restriction CqlValue))
+    → ((r : Restriction CqlValue) → b ≡ Some r → Bounds columns rs place r) → MeetsBound (row place) b
 bound_met columns rs row all place None h = tt
 bound_met columns rs row all place (Some r) h =
     let b = h r refl in
     subst (λ (n : ℕ). meets (row n) r ≡ true) b.column (all b.index r b.stands (on_row_is columns rs place r b))
 
-sides : (w : CqlValue) (rs : List Restriction) (place : ℕ) (falls : Bool) → MeetsBound w (first_bound falls rs place) → MeetsBound w (last_bound falls rs place)
+sides : (w : CqlValue) (rs : List (Restriction CqlValue)) (place : ℕ) (falls : Bool) → MeetsBound w (first_bound falls rs place) → MeetsBound w (last_bound falls rs place)
     → MeetsBound w (lower_bound rs place) × MeetsBound w (upper_bound rs place)
 sides w rs place true f l = (l, f)
 sides w rs place false f l = (f, l)
 
 -- ---- the first column that is not fixed
 
-free_from : (columns : List ColumnDef) (rs : List Restriction) (place : ℕ) (ds : List ColumnDef) → drop place columns ≡ ds
+free_from : (columns : List ColumnDef) (rs : List (Restriction CqlValue)) (place : ℕ) (ds : List ColumnDef) → drop place columns ≡ ds
     → (d : ColumnDef) → slice_get columns (open_from rs place ds) ≡ Some d → d.kind ≡ Clustering → is_fixed rs (open_from rs place ds) ≡ false
 free_from columns rs place [] left d at kind =
     let none = head_at columns place ∙ ap (λ (l : List ColumnDef). slice_get l 0) left in
@@ -259,7 +259,7 @@ up_to : (a b : ℕ) → nat_lt a b ≡ false → (b < a) ⊎ (b ≡ a)
 up_to a b h = grind (arith, nat_tests)
 
 -- a relation on a clustering column is on one that is fixed, or on the first that is not
-not_behind : (columns : List ColumnDef) (rs : List Restriction) → NameRows columns rs → (i : ℕ) (r : Restriction) → slice_get rs i ≡ Some r
+not_behind : (columns : List ColumnDef) (rs : List (Restriction CqlValue)) → NameRows columns rs → (i : ℕ) (r : Restriction CqlValue) → slice_get rs i ≡ Some r
     → (r.column < open_place columns rs) ⊎ (r.column ≡ open_place columns rs)
 not_behind columns rs named i r stands =
     let place = open_place columns rs in
@@ -270,13 +270,13 @@ not_behind columns rs named i r stands =
 
 -- ---- the law
 
-all_met : (columns : List ColumnDef) (rs : List Restriction) (row : ℕ → CqlValue) → NameRows columns rs → (prefix bytes : List ℕ)
+all_met : (columns : List ColumnDef) (rs : List (Restriction CqlValue)) (row : ℕ → CqlValue) → NameRows columns rs → (prefix bytes : List ℕ)
     → Same columns rs row 0 (open_place columns rs) prefix bytes
     → MeetsBound (row (open_place columns rs)) (lower_bound rs (open_place columns rs)) × MeetsBound (row (open_place columns rs)) (upper_bound rs (open_place columns rs))
     → MeetsAll columns rs row
 all_met columns rs row named prefix bytes s met = λ i r stands on. one i r stands (clustering_at (slice_get columns r.column) on) (not_behind columns rs named i r stands)
   where
-    one : (i : ℕ) (r : Restriction) → slice_get rs i ≡ Some r → (d : ColumnDef) × (slice_get columns r.column ≡ Some d) × (d.kind ≡ Clustering)
+    one : (i : ℕ) (r : Restriction CqlValue) → slice_get rs i ≡ Some r → (d : ColumnDef) × (slice_get columns r.column ≡ Some d) × (d.kind ≡ Clustering)
         → (r.column < open_place columns rs) ⊎ (r.column ≡ open_place columns rs) → meets (row r.column) r ≡ true
     one i r stands d (inl before) =
         let m = s.met r.column d.0 (omega arith) before d.1 d.2 in
@@ -289,25 +289,25 @@ all_met columns rs row named prefix bytes s met = λ i r stands on. one i r stan
         let bound = bound_is rs place once (free_from columns rs 0 columns refl d.0 at d.2) i r stands here in
         ap (λ (n : ℕ). meets (row n) r) here ∙ by_bound place r bound met
       where
-        by_bound : (place : ℕ) (r : Restriction) → (lower_bound rs place ≡ Some r) ⊎ (upper_bound rs place ≡ Some r)
+        by_bound : (place : ℕ) (r : Restriction CqlValue) → (lower_bound rs place ≡ Some r) ⊎ (upper_bound rs place ≡ Some r)
             → MeetsBound (row place) (lower_bound rs place) × MeetsBound (row place) (upper_bound rs place) → meets (row place) r ≡ true
         by_bound place r (inl e) met = subst (MeetsBound (row place)) e met.0
         by_bound place r (inr e) met = subst (MeetsBound (row place)) e met.1
 
 -- the order of a row to the two bounds
-abbrev Orders : List ColumnDef → List Restriction → (ℕ → CqlValue) → Type 0
+abbrev Orders : List ColumnDef → List (Restriction CqlValue) → (ℕ → CqlValue) → Type 0
 Orders columns rs row =
     (signs_cmp (row_signs (row_bytes columns row)) (bound_signs (from_of columns rs)) ≡ Greater)
     × (signs_cmp (row_signs (row_bytes columns row)) (bound_signs (upto_of columns rs)) ≡ Less)
 
-orders_are : (columns : List ColumnDef) (rs : List Restriction) (row : ℕ → CqlValue)
+orders_are : (columns : List ColumnDef) (rs : List (Restriction CqlValue)) (row : ℕ → CqlValue)
     → IsBetween (from_of columns rs) (upto_of columns rs) (row_bytes columns row) ↔ Orders columns rs row
 orders_are columns rs row =
     let bytes = row_signs (row_bytes columns row) in
     let from = bound_signs (from_of columns rs) in
     (λ b. (signs_turned bytes from ∙ ap ordering_reverse b.0, b.1), λ o. (signs_turned from bytes ∙ ap ordering_reverse o.0, o.1))
 
-by_front : KeepsOrder → ComparesTypes → (columns : List ColumnDef) (rs : List Restriction) (row : ℕ → CqlValue) → NameRows columns rs → IsRow columns row
+by_front : KeepsOrder → ComparesTypes → (columns : List ColumnDef) (rs : List (Restriction CqlValue)) (row : ℕ → CqlValue) → NameRows columns rs → IsRow columns row
     → Front columns rs row 0 (open_place columns rs) (prefix_bytes columns rs) (row_bytes columns row) → Orders columns rs row ↔ MeetsAll columns rs row
 by_front keeps compares columns rs row named is_row (apart a) =
     let falls = falls_open columns rs in

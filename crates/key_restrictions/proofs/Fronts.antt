@@ -15,33 +15,33 @@ use Rattle.key_restrictions.specs.declared.restriction.Restriction.{Restriction}
 use Rattle.key_restrictions.specs.Operators.{is_equal}
 use Rattle.key_restrictions.specs.Places.{is_partition, is_clustering, is_key, is_of_kind, is_partition_at, is_clustering_at, is_fixed, fixes, fixing, open_from}
 use Rattle.key_restrictions.specs.Checks.{is_on_row}
-use Rattle.key_restrictions.specs.Rows.{word_of, word_in, prefix_from}
+use Rattle.key_restrictions.specs.Rows.{word_in, prefix_from}
 use Rattle.key_restrictions.specs.Laws.{meets, NameRows, IsRow, bytes_from}
 use Rattle.key_restrictions.proofs.Lookups.{found, some_found, head_at, left_next}
 use Rattle.key_restrictions.proofs.Columns.{column_of, Compared, compared, meets_is, meets_equal}
 use Rattle.key_restrictions.proofs.Signs.{words_decide, same_word, directed_equal, signs_append}
 
 -- the columns that are fixed have the row's values, and so it goes on behind their bytes
-pub record Same (columns : List ColumnDef) (rs : List Restriction) (row : ℕ → CqlValue) (place end : ℕ) (prefix bytes : List ℕ) : Type 0 where
+pub record Same (columns : List ColumnDef) (rs : List (Restriction CqlValue)) (row : ℕ → CqlValue) (place end : ℕ) (prefix bytes : List ℕ) : Type 0 where
   pub front : bytes ≡ prefix ++ bytes_from row end (drop end columns)
   pub met : (at : ℕ) (d : ColumnDef) → place ≤ at → at < end → slice_get columns at ≡ Some d → d.kind ≡ Clustering
-      → (f : Restriction) × (fixing rs at ≡ Some f) × (meets (row at) f ≡ true)
+      → (f : Restriction CqlValue) × (fixing rs at ≡ Some f) × (meets (row at) f ≡ true)
 
 -- one of them has another value, which decides whatever follows their bytes
-pub record Apart (columns : List ColumnDef) (rs : List Restriction) (row : ℕ → CqlValue) (prefix bytes : List ℕ) : Type 0 where
+pub record Apart (columns : List ColumnDef) (rs : List (Restriction CqlValue)) (row : ℕ → CqlValue) (prefix bytes : List ℕ) : Type 0 where
   pub place : ℕ
-  pub relation : Restriction
+  pub relation : Restriction CqlValue
   pub stands : slice_get rs place ≡ Some relation
   pub on_row : is_on_row columns relation ≡ true
   pub unmet : meets (row relation.column) relation ≡ false
   pub order : Ordering
   pub decided : (y : List (ℕ × ℕ)) → signs_cmp (signs bytes 1) (map byte_sign prefix ++ y) ≡ order
 
-pub data Front (columns : List ColumnDef) (rs : List Restriction) (row : ℕ → CqlValue) (place end : ℕ) (prefix bytes : List ℕ) : Type 0 where
+pub data Front (columns : List ColumnDef) (rs : List (Restriction CqlValue)) (row : ℕ → CqlValue) (place end : ℕ) (prefix bytes : List ℕ) : Type 0 where
   same : Same columns rs row place end prefix bytes → Front columns rs row place end prefix bytes
   apart : Apart columns rs row prefix bytes → Front columns rs row place end prefix bytes
 
-recast : (columns : List ColumnDef) (rs : List Restriction) (row : ℕ → CqlValue) (place end end' : ℕ) (prefix prefix' bytes bytes' : List ℕ)
+recast : (columns : List ColumnDef) (rs : List (Restriction CqlValue)) (row : ℕ → CqlValue) (place end end' : ℕ) (prefix prefix' bytes bytes' : List ℕ)
     → end ≡ end' → prefix ≡ prefix' → bytes ≡ bytes' → Front columns rs row place end' prefix' bytes' → Front columns rs row place end prefix bytes
 recast columns rs row place end end' prefix prefix' bytes bytes' o p b f =
     subst (λ (x : ℕ). Front columns rs row place x prefix bytes) (sym o)
@@ -52,14 +52,14 @@ first_or_later place at h = grind arith
 
 -- ---- a column that is not fixed, and one of the partition key
 
-stop : (columns : List ColumnDef) (rs : List Restriction) (row : ℕ → CqlValue) (place : ℕ) (ds : List ColumnDef) → drop place columns ≡ ds
+stop : (columns : List ColumnDef) (rs : List (Restriction CqlValue)) (row : ℕ → CqlValue) (place : ℕ) (ds : List ColumnDef) → drop place columns ≡ ds
     → Front columns rs row place place [] (bytes_from row place ds)
 stop columns rs row place ds left = same (record {
   front = sym (ap (bytes_from row place) left);
   met = λ at d low high stands kind. absurd (omega arith);
 })
 
-skip : (columns : List ColumnDef) (rs : List Restriction) (row : ℕ → CqlValue) (place end : ℕ) (prefix bytes : List ℕ) (d : ColumnDef)
+skip : (columns : List ColumnDef) (rs : List (Restriction CqlValue)) (row : ℕ → CqlValue) (place end : ℕ) (prefix bytes : List ℕ) (d : ColumnDef)
     → slice_get columns place ≡ Some d → d.kind ≡ Partition
     → Front columns rs row (place + 1) end prefix bytes → Front columns rs row place end prefix bytes
 skip columns rs row place end prefix bytes d here kind (apart a) = apart a
@@ -69,7 +69,7 @@ skip columns rs row place end prefix bytes d here kind (same s) = same (record {
 })
   where
     go : (at : ℕ) (e : ColumnDef) → (at ≡ place) ⊎ (place + 1 ≤ at) → at < end → slice_get columns at ≡ Some e → e.kind ≡ Clustering
-        → (f : Restriction) × (fixing rs at ≡ Some f) × (meets (row at) f ≡ true)
+        → (f : Restriction CqlValue) × (fixing rs at ≡ Some f) × (meets (row at) f ≡ true)
     go at e (inl first) high stands clustering =
         let again : slice_get columns at ≡ Some d = ap (slice_get columns) first ∙ here in
         let equal : d ≡ e = cc in
@@ -83,12 +83,12 @@ behind_front : (a b : List ℕ) (y : List (ℕ × ℕ)) → map byte_sign (a ++ 
 behind_front a b y = ap (λ (l : List (ℕ × ℕ)). l ++ y) (map-append byte_sign a b) ∙ append_assoc (map byte_sign a) (map byte_sign b) y
 
 -- the two words decide, and else what is behind them
-word_first : KeepsOrder → (desc : Bool) (w : CqlValue) (r : Restriction) (c : Compared w r) (prefix bytes : List ℕ) (y : List (ℕ × ℕ))
-    → signs_cmp (signs (order_word desc w ++ bytes) 1) (map byte_sign (order_word desc c.value ++ prefix) ++ y)
+word_first : KeepsOrder → (desc : Bool) (w : CqlValue) (r : Restriction CqlValue) (c : Compared w r) (prefix bytes : List ℕ) (y : List (ℕ × ℕ))
+    → signs_cmp (signs (order_word desc w ++ bytes) 1) (map byte_sign (order_word desc r.value ++ prefix) ++ y)
     ≡ ordering_then (directed desc c.order) (signs_cmp (signs bytes 1) (map byte_sign prefix ++ y))
 word_first keeps desc w r c prefix bytes y =
-    (λ i. signs_cmp (signs_append (order_word desc w) bytes 1 i) (behind_front (order_word desc c.value) prefix y i))
-    ∙ words_decide keeps desc w c.value c.order c.row_fits c.fits c.ordered (signs bytes 1) (map byte_sign prefix ++ y)
+    (λ i. signs_cmp (signs_append (order_word desc w) bytes 1 i) (behind_front (order_word desc r.value) prefix y i))
+    ∙ words_decide keeps desc w r.value c.order c.row_fits c.fits c.ordered (signs bytes 1) (map byte_sign prefix ++ y)
 
 strict_order : (desc : Bool) (o z : Ordering) → is_eq o ≡ false → ordering_then (directed desc o) z ≡ directed desc o
 strict_order true Less z e = refl
@@ -104,8 +104,8 @@ is_equal_order Equal e = refl
 is_equal_order Greater e = absurd (cc)
 
 -- the relation that fixes a clustering column
-record Fixed (columns : List ColumnDef) (rs : List Restriction) (row : ℕ → CqlValue) (place : ℕ) (d : ColumnDef) : Type 0 where
-  relation : Restriction
+record Fixed (columns : List ColumnDef) (rs : List (Restriction CqlValue)) (row : ℕ → CqlValue) (place : ℕ) (d : ColumnDef) : Type 0 where
+  relation : Restriction CqlValue
   is : fixing rs place ≡ Some relation
   index : ℕ
   stands : slice_get rs index ≡ Some relation
@@ -113,7 +113,7 @@ record Fixed (columns : List ColumnDef) (rs : List Restriction) (row : ℕ → C
   compared : Compared (row place) relation
   meets_order : meets (row place) relation ≡ is_eq compared.order
 
-fixed_at : ComparesTypes → (columns : List ColumnDef) (rs : List Restriction) (row : ℕ → CqlValue) → NameRows columns rs → IsRow columns row
+fixed_at : ComparesTypes → (columns : List ColumnDef) (rs : List (Restriction CqlValue)) (row : ℕ → CqlValue) → NameRows columns rs → IsRow columns row
     → (place : ℕ) (d : ColumnDef) → slice_get columns place ≡ Some d → d.kind ≡ Clustering → is_fixed rs place ≡ true → Fixed columns rs row place d
 fixed_at compares columns rs row named is_row place d at kind fixed =
     let s = some_found (fixes place) rs fixed in
@@ -131,13 +131,13 @@ fixed_at compares columns rs row named is_row place d at kind fixed =
     }
 
 -- the bytes so far, with those of this column before them
-abbrev Before : List ColumnDef → List Restriction → (ℕ → CqlValue) → ℕ → ℕ → ColumnDef → CqlValue → List ℕ → List ℕ → Type 0
+abbrev Before : List ColumnDef → List (Restriction CqlValue) → (ℕ → CqlValue) → ℕ → ℕ → ColumnDef → CqlValue → List ℕ → List ℕ → Type 0
 Before columns rs row place end d v prefix bytes =
     Front columns rs row place end (order_word d.is_descending v ++ prefix) (order_word d.is_descending (row place) ++ bytes)
 
-other_value : KeepsOrder → (columns : List ColumnDef) (rs : List Restriction) (row : ℕ → CqlValue) (place end : ℕ) (prefix bytes : List ℕ) (d : ColumnDef)
+other_value : KeepsOrder → (columns : List ColumnDef) (rs : List (Restriction CqlValue)) (row : ℕ → CqlValue) (place end : ℕ) (prefix bytes : List ℕ) (d : ColumnDef)
     → slice_get columns place ≡ Some d → d.kind ≡ Clustering → (f : Fixed columns rs row place d) → is_eq f.compared.order ≡ false
-    → Before columns rs row place end d f.compared.value prefix bytes
+    → Before columns rs row place end d f.relation.value prefix bytes
 other_value keeps columns rs row place end prefix bytes d at kind f e = apart (record {
   place = f.index;
   relation = f.relation;
@@ -149,9 +149,9 @@ other_value keeps columns rs row place end prefix bytes d at kind f e = apart (r
       ∙ strict_order d.is_descending f.compared.order (signs_cmp (signs bytes 1) (map byte_sign prefix ++ y)) e;
 })
 
-same_value : KeepsOrder → (columns : List ColumnDef) (rs : List Restriction) (row : ℕ → CqlValue) (place end : ℕ) (prefix bytes : List ℕ) (d : ColumnDef)
+same_value : KeepsOrder → (columns : List ColumnDef) (rs : List (Restriction CqlValue)) (row : ℕ → CqlValue) (place end : ℕ) (prefix bytes : List ℕ) (d : ColumnDef)
     → slice_get columns place ≡ Some d → (f : Fixed columns rs row place d) → is_eq f.compared.order ≡ true
-    → Front columns rs row (place + 1) end prefix bytes → Before columns rs row place end d f.compared.value prefix bytes
+    → Front columns rs row (place + 1) end prefix bytes → Before columns rs row place end d f.relation.value prefix bytes
 same_value keeps columns rs row place end prefix bytes d here f e (apart a) = apart (record {
   place = a.place;
   relation = a.relation;
@@ -166,30 +166,30 @@ same_value keeps columns rs row place end prefix bytes d here f e (apart a) = ap
 same_value keeps columns rs row place end prefix bytes d here f e (same s) =
     let c = f.compared in
     let desc = d.is_descending in
-    let word = same_word keeps desc (row place) c.value c.row_fits c.fits (c.ordered ∙ ap Some (is_equal_order c.order e)) in
+    let word = same_word keeps desc (row place) f.relation.value c.row_fits c.fits (c.ordered ∙ ap Some (is_equal_order c.order e)) in
     same (record {
-      front = (λ i. word i ++ s.front i) ∙ sym (append_assoc (order_word desc c.value) prefix (bytes_from row end (drop end columns)));
+      front = (λ i. word i ++ s.front i) ∙ sym (append_assoc (order_word desc f.relation.value) prefix (bytes_from row end (drop end columns)));
       met = λ at x low high stands clustering. go at x (first_or_later place at low) high stands clustering;
     })
   where
     go : (at : ℕ) (x : ColumnDef) → (at ≡ place) ⊎ (place + 1 ≤ at) → at < end → slice_get columns at ≡ Some x → x.kind ≡ Clustering
-        → (g : Restriction) × (fixing rs at ≡ Some g) × (meets (row at) g ≡ true)
+        → (g : Restriction CqlValue) × (fixing rs at ≡ Some g) × (meets (row at) g ≡ true)
     go at x (inl first) high stands clustering =
         (f.relation, ap (fixing rs) first ∙ f.is, ap (λ (n : ℕ). meets (row n) f.relation) first ∙ (f.meets_order ∙ e))
     go at x (inr later) high stands clustering = s.met at x later high stands clustering
 
-fixed_step : KeepsOrder → (columns : List ColumnDef) (rs : List Restriction) (row : ℕ → CqlValue) (place end : ℕ) (prefix bytes : List ℕ) (d : ColumnDef)
+fixed_step : KeepsOrder → (columns : List ColumnDef) (rs : List (Restriction CqlValue)) (row : ℕ → CqlValue) (place end : ℕ) (prefix bytes : List ℕ) (d : ColumnDef)
     → slice_get columns place ≡ Some d → d.kind ≡ Clustering → (f : Fixed columns rs row place d) → (b : Bool) → is_eq f.compared.order ≡ b
-    → Front columns rs row (place + 1) end prefix bytes → Before columns rs row place end d f.compared.value prefix bytes
+    → Front columns rs row (place + 1) end prefix bytes → Before columns rs row place end d f.relation.value prefix bytes
 fixed_step keeps columns rs row place end prefix bytes d at kind f true e rest = same_value keeps columns rs row place end prefix bytes d at f e rest
 fixed_step keeps columns rs row place end prefix bytes d at kind f false e rest = other_value keeps columns rs row place end prefix bytes d at kind f e
 
 -- ---- all columns up to the first that is not fixed
 
-abbrev FrontFrom : List ColumnDef → List Restriction → (ℕ → CqlValue) → ℕ → List ColumnDef → Type 0
+abbrev FrontFrom : List ColumnDef → List (Restriction CqlValue) → (ℕ → CqlValue) → ℕ → List ColumnDef → Type 0
 FrontFrom columns rs row place ds = Front columns rs row place (open_from rs place ds) (prefix_from rs place ds) (bytes_from row place ds)
 
-pub front_from : KeepsOrder → ComparesTypes → (columns : List ColumnDef) (rs : List Restriction) (row : ℕ → CqlValue) → NameRows columns rs → IsRow columns row
+pub front_from : KeepsOrder → ComparesTypes → (columns : List ColumnDef) (rs : List (Restriction CqlValue)) (row : ℕ → CqlValue) → NameRows columns rs → IsRow columns row
     → (place : ℕ) (ds : List ColumnDef) → drop place columns ≡ ds → is_partition_at columns (open_from rs place ds) ≡ false
     → Front columns rs row place (open_from rs place ds) (prefix_from rs place ds) (bytes_from row place ds)
 front_from keeps compares columns rs row named is_row place [] left away = stop columns rs row place [] left
@@ -216,10 +216,10 @@ front_from keeps compares columns rs row named is_row place (d ∷ ds) left away
         absurd (cc)
     go Clustering e true f rest =
         let fixed = fixed_at compares columns rs row named is_row place d at e f in
-        let value = fixed.compared.value in
+        let value = fixed.relation.value in
         let end : open_from rs place (d ∷ ds) ≡ open_from rs (place + 1) ds = (λ i. cond (is_key (e i) && f i) (open_from rs (place + 1) ds) place) in
         let same : word_in d.is_descending (fixing rs place) ≡ order_word d.is_descending value =
-        ap (word_in d.is_descending) fixed.is ∙ ap (word_of d.is_descending) fixed.compared.supplied in
+        ap (word_in d.is_descending) fixed.is in
         recast columns rs row place (open_from rs place (d ∷ ds)) (open_from rs (place + 1) ds)
         (prefix_from rs place (d ∷ ds)) (order_word d.is_descending value ++ prefix_from rs (place + 1) ds)
         (bytes_from row place (d ∷ ds)) (order_word d.is_descending (row place) ++ bytes_from row (place + 1) ds) end

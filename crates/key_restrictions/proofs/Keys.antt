@@ -1,5 +1,6 @@
 -- The bytes of keys of one column and of several.
 use Rattle.std.proofs.Common.{◌≡◌, ◌&&◌, ◌∷◌, [], Bool, true, false, cond, not, List, refl, flat_map}
+use Rattle.cql_values.specs.declared.value.CqlValue.{CqlValue}
 use Rattle.schema_book.specs.declared.table.ColumnDef.{ColumnDef}
 use Rattle.key_restrictions.specs.declared.restriction.Restriction.{Restriction}
 use Rattle.key_restrictions.specs.Places.{is_partition, is_partition_at, fixing}
@@ -9,7 +10,7 @@ use Rattle.key_restrictions.specs.Rows.{bytes_in, parts_from, key_parts, framed,
 abbrev pub IsSingle : List ColumnDef → Bool → Type 0
 IsSingle columns b = (is_partition_at columns 0 && not (is_partition_at columns 1)) ≡ b
 
-pub single_bytes : (columns : List ColumnDef) (rs : List Restriction) → IsSingle columns true → bytes_in (fixing rs 0) ≡ key_bytes columns rs
+pub single_bytes : (columns : List ColumnDef) (rs : List (Restriction CqlValue)) → IsSingle columns true → bytes_in (fixing rs 0) ≡ key_bytes columns rs
 single_bytes [] rs h = absurd (cc)
 single_bytes (d ∷ []) rs h = go (is_partition d.kind) h
   where
@@ -24,7 +25,7 @@ single_bytes (d ∷ e ∷ ds) rs h = go (is_partition d.kind) (is_partition e.ki
     go true false h = refl
     go false b h = absurd (cc)
 
-pub composite_bytes : (columns : List ColumnDef) (rs : List Restriction) → IsSingle columns false → flat_map framed (key_parts columns rs) ≡ key_bytes columns rs
+pub composite_bytes : (columns : List ColumnDef) (rs : List (Restriction CqlValue)) → IsSingle columns false → flat_map framed (key_parts columns rs) ≡ key_bytes columns rs
 composite_bytes [] rs h = refl
 composite_bytes (d ∷ []) rs h = go (is_partition d.kind) h
   where

@@ -12,8 +12,6 @@ use Rattle.cql_values.specs.declared.value.CqlValue.{CqlValue}
 use Rattle.changes.specs.Order.{IsBetween}
 use Rattle.schema_book.specs.declared.table.ColumnDef.{ColumnDef}
 use Rattle.schema_book.specs.declared.table.ColumnKind.TheVariants.{Clustering}
-use Rattle.statement_values.specs.declared.supplied.Supplied.{Supplied}
-use Rattle.statement_values.specs.declared.supplied.Supplied.TheVariants.{Missing, Mismatched, Null, NotSet, Value}
 use Rattle.key_restrictions.specs.declared.restriction.Restriction.{Restriction}
 use Rattle.key_restrictions.specs.Places.{is_clustering}
 use Rattle.key_restrictions.specs.Checks.{misses_slice, is_twice, filters, is_on_row}
@@ -25,12 +23,12 @@ IsOfType ty v = (type_of v ≡ ty) × IsValue v
 -- ---- relations
 
 -- each relation has a value of its column's type
-abbrev pub AreTyped : List ColumnDef → List Restriction → Type 0
-AreTyped columns rs = (i : ℕ) (r : Restriction) (d : ColumnDef) → slice_get rs i ≡ Some r → slice_get columns r.column ≡ Some d
-    → (v : CqlValue) × (r.value ≡ Value v) × IsOfType d.ty v
+abbrev pub AreTyped : List ColumnDef → List (Restriction CqlValue) → Type 0
+AreTyped columns rs = (i : ℕ) (r : Restriction CqlValue) (d : ColumnDef) → slice_get rs i ≡ Some r → slice_get columns r.column ≡ Some d
+    → IsOfType d.ty r.value
 
 -- nothing is wrong with the relations
-pub record NameRows (columns : List ColumnDef) (rs : List Restriction) : Type 0 where
+pub record NameRows (columns : List ColumnDef) (rs : List (Restriction CqlValue)) : Type 0 where
   pub slice : misses_slice columns rs ≡ false
   pub once : is_twice columns rs ≡ false
   pub of_key : filters columns rs ≡ false
@@ -49,16 +47,9 @@ abbrev pub is_met_in : RelationOperator → Option Ordering → Bool
 is_met_in operator None = false
 is_met_in operator (Some o) = is_met operator o
 
-abbrev pub order_with : CqlValue → Supplied → Option Ordering
-order_with w Missing = None
-order_with w Mismatched = None
-order_with w Null = None
-order_with w NotSet = None
-order_with w (Value v) = value_order w v
-
 -- the value is such as the relation says
-abbrev pub meets : CqlValue → Restriction → Bool
-meets w r = is_met_in r.operator (order_with w r.value)
+abbrev pub meets : CqlValue → Restriction CqlValue → Bool
+meets w r = is_met_in r.operator (value_order w r.value)
 
 -- ---- rows
 
@@ -77,12 +68,12 @@ abbrev pub row_bytes : List ColumnDef → (ℕ → CqlValue) → List ℕ
 row_bytes columns row = bytes_from row 0 columns
 
 -- the row meets each relation on a clustering column
-abbrev pub MeetsAll : List ColumnDef → List Restriction → (ℕ → CqlValue) → Type 0
-MeetsAll columns rs row = (i : ℕ) (r : Restriction) → slice_get rs i ≡ Some r → is_on_row columns r ≡ true → meets (row r.column) r ≡ true
+abbrev pub MeetsAll : List ColumnDef → List (Restriction CqlValue) → (ℕ → CqlValue) → Type 0
+MeetsAll columns rs row = (i : ℕ) (r : Restriction CqlValue) → slice_get rs i ≡ Some r → is_on_row columns r ≡ true → meets (row r.column) r ≡ true
 
 -- ---- the law
 
 -- A row lies between the bounds exactly where it meets the relations.
 abbrev pub BoundsEncloseRows : Type 0
-BoundsEncloseRows = (columns : List ColumnDef) (rs : List Restriction) (row : ℕ → CqlValue) → NameRows columns rs → IsRow columns row
+BoundsEncloseRows = (columns : List ColumnDef) (rs : List (Restriction CqlValue)) (row : ℕ → CqlValue) → NameRows columns rs → IsRow columns row
     → IsBetween (from_of columns rs) (upto_of columns rs) (row_bytes columns row) ↔ MeetsAll columns rs row

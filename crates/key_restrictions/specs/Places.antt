@@ -40,34 +40,34 @@ is_key_at columns place = is_of_kind is_key (slice_get columns place)
 
 -- ---- relations on a column
 
-abbrev pub fixes : ℕ → Restriction → Bool
+abbrev pub fixes : {V : Type 0} → ℕ → Restriction V → Bool
 fixes place r = r.column == place && is_equal r.operator
 
-abbrev pub bounds_below : ℕ → Restriction → Bool
+abbrev pub bounds_below : {V : Type 0} → ℕ → Restriction V → Bool
 bounds_below place r = r.column == place && is_lower r.operator
 
-abbrev pub bounds_above : ℕ → Restriction → Bool
+abbrev pub bounds_above : {V : Type 0} → ℕ → Restriction V → Bool
 bounds_above place r = r.column == place && is_upper r.operator
 
 -- a column is fixed where some relation says what it equals
-abbrev pub is_fixed : List Restriction → ℕ → Bool
+abbrev pub is_fixed : {V : Type 0} → List (Restriction V) → ℕ → Bool
 is_fixed rs place = list_any (fixes place) rs
 
 -- the relation that fixes it, or bounds it
-abbrev pub fixing : List Restriction → ℕ → Option Restriction
+abbrev pub fixing : {V : Type 0} → List (Restriction V) → ℕ → Option (Restriction V)
 fixing rs place = find (fixes place) rs
 
-abbrev pub lower_bound : List Restriction → ℕ → Option Restriction
+abbrev pub lower_bound : {V : Type 0} → List (Restriction V) → ℕ → Option (Restriction V)
 lower_bound rs place = find (bounds_below place) rs
 
-abbrev pub upper_bound : List Restriction → ℕ → Option Restriction
+abbrev pub upper_bound : {V : Type 0} → List (Restriction V) → ℕ → Option (Restriction V)
 upper_bound rs place = find (bounds_above place) rs
 
 -- the first of the columns from this place on that is not a fixed column of the key
-abbrev pub open_from : List Restriction → ℕ → List ColumnDef → ℕ
+abbrev pub open_from : {V : Type 0} → List (Restriction V) → ℕ → List ColumnDef → ℕ
 open_from rs place [] = place
 open_from rs place (d ∷ ds) = if is_key d.kind && is_fixed rs place then open_from rs (place + 1) ds else place
 
 -- the place of the first column that is not a fixed column of the key
-abbrev pub open_place : List ColumnDef → List Restriction → ℕ
+abbrev pub open_place : {V : Type 0} → List ColumnDef → List (Restriction V) → ℕ
 open_place columns rs = open_from rs 0 columns

@@ -1,7 +1,8 @@
 //! The rows of a partition that relations name.
 
 ghost use Rattle.std.specs.Prelude.{◌≡◌, ◌++◌, slice_get, option_copied, IfOk};
-ghost use Rattle.key_restrictions.specs.Rows.{word_of as word_of_supplied, word_in as word_in_of, prefix_bytes as prefix_bytes_of, falls_at as falls_at_of, first_bound as first_bound_of, last_bound as last_bound_of, begin_at as begin_at_of, end_at as end_at_of};
+ghost use Rattle.cql_values.specs.Order.{order_word};
+ghost use Rattle.key_restrictions.specs.Rows.{word_in as word_in_of, prefix_bytes as prefix_bytes_of, falls_at as falls_at_of, first_bound as first_bound_of, last_bound as last_bound_of, begin_at as begin_at_of, end_at as end_at_of};
 
 use crate::operators::is_strict;
 use crate::places::{fixing, is_clustering, is_fixed, is_partition, lower_bound, upper_bound};
@@ -10,24 +11,24 @@ use changes::Bound;
 use cql_values::{CqlValue, order_bytes};
 use cs_base::Bytes;
 use schema_book::ColumnDef;
-use statement_values::Supplied;
 use std::alloc::{AllocError, Global};
 
-/// The order bytes of a value.
-fn word_of(alloc: Global, falls: bool, value: &Supplied) -> Result<Bytes, AllocError>
-    ensures { IfOk result (λ word. word ≡ word_of_supplied falls value.now) }
+/// The order bytes of a value; a uuid has none.
+fn word_of(alloc: Global, falls: bool, value: &CqlValue) -> Result<Bytes, AllocError>
+    ensures { IfOk result (λ word. word ≡ order_word falls value.now) }
 {
     match value {
-        Supplied::Missing | Supplied::Mismatched | Supplied::Null | Supplied::NotSet => {
-            Ok(Bytes::new(alloc))
-        }
-        Supplied::Value(CqlValue::Uuid(_)) => Ok(Bytes::new(alloc)),
-        Supplied::Value(value) => order_bytes(alloc, value, falls),
+        CqlValue::Uuid(_) => Ok(Bytes::new(alloc)),
+        value => order_bytes(alloc, value, falls),
     }
 }
 
 /// The order bytes of the value that a column is to equal.
-fn word_in(alloc: Global, falls: bool, relation: Option<&Restriction>) -> Result<Bytes, AllocError>
+fn word_in(
+    alloc: Global,
+    falls: bool,
+    relation: Option<&Restriction<CqlValue>>,
+) -> Result<Bytes, AllocError>
     ensures { IfOk result (λ word. word ≡ word_in_of falls (option_copied relation.entry)) }
 {
     match relation {
@@ -40,7 +41,7 @@ fn word_in(alloc: Global, falls: bool, relation: Option<&Restriction>) -> Result
 pub(crate) fn prefix_bytes(
     alloc: Global,
     columns: &[ColumnDef],
-    restrictions: &[Restriction],
+    restrictions: &[Restriction<CqlValue>],
 ) -> Result<Bytes, AllocError>
     ensures { IfOk result (λ prefix. prefix ≡ prefix_bytes_of columns.now restrictions.now) }
 {
@@ -71,9 +72,9 @@ pub(crate) fn falls_at(columns: &[ColumnDef], place: usize) -> bool
 /// The relation that bounds the rows from the front: in falling order the upper bound comes first.
 pub(crate) fn first_bound(
     falls: bool,
-    restrictions: &[Restriction],
+    restrictions: &[Restriction<CqlValue>],
     place: usize,
-) -> Option<&Restriction>
+) -> Option<&Restriction<CqlValue>>
     ensures { option_copied result ≡ first_bound_of falls restrictions.now place }
 {
     if falls {
@@ -86,9 +87,9 @@ pub(crate) fn first_bound(
 /// The relation that bounds the rows from the back.
 pub(crate) fn last_bound(
     falls: bool,
-    restrictions: &[Restriction],
+    restrictions: &[Restriction<CqlValue>],
     place: usize,
-) -> Option<&Restriction>
+) -> Option<&Restriction<CqlValue>>
     ensures { option_copied result ≡ last_bound_of falls restrictions.now place }
 {
     if falls {
@@ -103,9 +104,9 @@ fn bytes_at(
     alloc: Global,
     prefix: &[u8],
     falls: bool,
-    value: &Supplied,
+    value: &CqlValue,
 ) -> Result<Bytes, AllocError>
-    ensures { IfOk result (λ bytes. bytes ≡ prefix.now ++ word_of_supplied falls value.now) }
+    ensures { IfOk result (λ bytes. bytes ≡ prefix.now ++ order_word falls value.now) }
 {
     let word = word_of(alloc, falls, value)?;
     let mut bytes = Vec::with_capacity(alloc, prefix.len() + word.as_slice().len())?;
@@ -119,7 +120,7 @@ pub(crate) fn begin_at(
     alloc: Global,
     prefix: &[u8],
     falls: bool,
-    bound: Option<&Restriction>,
+    bound: Option<&Restriction<CqlValue>>,
 ) -> Result<Bound, AllocError>
     ensures { IfOk result (λ begin. begin ≡ begin_at_of prefix.now falls (option_copied bound.entry)) }
 {
@@ -140,7 +141,7 @@ pub(crate) fn end_at(
     alloc: Global,
     prefix: &[u8],
     falls: bool,
-    bound: Option<&Restriction>,
+    bound: Option<&Restriction<CqlValue>>,
 ) -> Result<Bound, AllocError>
     ensures { IfOk result (λ end. end ≡ end_at_of prefix.now falls (option_copied bound.entry)) }
 {

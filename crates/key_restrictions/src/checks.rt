@@ -2,7 +2,7 @@
 
 ghost use Rattle.std.specs.Prelude.{◌≡◌};
 ghost use Rattle.std.specs.List.{list_any};
-ghost use Rattle.key_restrictions.specs.Checks.{bounds_partition as bounds_partition_of, bounds_key as bounds_key_of, is_behind as is_behind_of, is_whole as is_whole_of, misses_whole as misses_whole_of, misses_slice as misses_slice_of, fixed_times as fixed_times_of, lower_times as lower_times_of, upper_times as upper_times_of, is_fixed_twice as is_fixed_twice_of, is_twice_at as is_twice_at_of, is_twice as is_twice_of, is_absent as is_absent_of, is_null_key as is_null_key_of, has_null as has_null_of, is_other as is_other_of, filters as filters_of, is_on_row as is_on_row_of, names_rows as names_rows_of};
+ghost use Rattle.key_restrictions.specs.Checks.{bounds_partition as bounds_partition_of, bounds_key as bounds_key_of, is_behind as is_behind_of, is_whole as is_whole_of, misses_whole as misses_whole_of, misses_slice as misses_slice_of, fixed_times as fixed_times_of, lower_times as lower_times_of, upper_times as upper_times_of, is_fixed_twice as is_fixed_twice_of, is_twice_at as is_twice_at_of, is_twice as is_twice_of, is_other as is_other_of, filters as filters_of, is_on_row as is_on_row_of, names_rows as names_rows_of};
 
 use crate::operators::is_equal;
 use crate::places::{
@@ -11,16 +11,15 @@ use crate::places::{
 };
 use crate::restriction::Restriction;
 use schema_book::ColumnDef;
-use statement_values::Supplied;
 
-fn bounds_partition(columns: &[ColumnDef], restriction: &Restriction) -> bool
+fn bounds_partition<V: Drop>(columns: &[ColumnDef], restriction: &Restriction<V>) -> bool
     ensures { result ≡ bounds_partition_of columns.now restriction.now }
 {
     is_partition_at(columns, restriction.column) && !is_equal(restriction.operator)
 }
 
 /// Whether some relation bounds a column of the partition key.
-fn has_partition_bound(columns: &[ColumnDef], restrictions: &[Restriction]) -> bool
+fn has_partition_bound<V: Drop>(columns: &[ColumnDef], restrictions: &[Restriction<V>]) -> bool
     ensures { result ≡ list_any (bounds_partition_of columns.now) restrictions.now }
 {
     restrictions
@@ -28,14 +27,14 @@ fn has_partition_bound(columns: &[ColumnDef], restrictions: &[Restriction]) -> b
         .any(|restriction| bounds_partition(columns, restriction))
 }
 
-fn bounds_key(columns: &[ColumnDef], restriction: &Restriction) -> bool
+fn bounds_key<V: Drop>(columns: &[ColumnDef], restriction: &Restriction<V>) -> bool
     ensures { result ≡ bounds_key_of columns.now restriction.now }
 {
     is_key_at(columns, restriction.column) && !is_equal(restriction.operator)
 }
 
 /// Whether some relation bounds a column of the key.
-fn has_key_bound(columns: &[ColumnDef], restrictions: &[Restriction]) -> bool
+fn has_key_bound<V: Drop>(columns: &[ColumnDef], restrictions: &[Restriction<V>]) -> bool
     ensures { result ≡ list_any (bounds_key_of columns.now) restrictions.now }
 {
     restrictions
@@ -43,14 +42,18 @@ fn has_key_bound(columns: &[ColumnDef], restrictions: &[Restriction]) -> bool
         .any(|restriction| bounds_key(columns, restriction))
 }
 
-fn is_behind(columns: &[ColumnDef], first: usize, restriction: &Restriction) -> bool
+fn is_behind<V: Drop>(columns: &[ColumnDef], first: usize, restriction: &Restriction<V>) -> bool
     ensures { result ≡ is_behind_of columns.now first restriction.now }
 {
     is_key_at(columns, restriction.column) && first < restriction.column
 }
 
 /// Whether some relation is on a column of the key behind this one.
-fn has_one_behind(columns: &[ColumnDef], first: usize, restrictions: &[Restriction]) -> bool
+fn has_one_behind<V: Drop>(
+    columns: &[ColumnDef],
+    first: usize,
+    restrictions: &[Restriction<V>],
+) -> bool
     ensures { result ≡ list_any (is_behind_of columns.now first) restrictions.now }
 {
     restrictions
@@ -59,21 +62,21 @@ fn has_one_behind(columns: &[ColumnDef], first: usize, restrictions: &[Restricti
 }
 
 /// Whether each key column is fixed.
-pub fn is_whole(columns: &[ColumnDef], restrictions: &[Restriction]) -> bool
+pub fn is_whole<V: Drop>(columns: &[ColumnDef], restrictions: &[Restriction<V>]) -> bool
     ensures { result ≡ is_whole_of columns.now restrictions.now }
 {
     !is_key_at(columns, open_place(columns, restrictions))
 }
 
 /// Whether the relations don't name one row by its whole key.
-pub fn misses_whole(columns: &[ColumnDef], restrictions: &[Restriction]) -> bool
+pub fn misses_whole<V: Drop>(columns: &[ColumnDef], restrictions: &[Restriction<V>]) -> bool
     ensures { result ≡ misses_whole_of columns.now restrictions.now }
 {
     !is_whole(columns, restrictions) || has_key_bound(columns, restrictions)
 }
 
 /// Whether the relations don't name rows of one partition that stand together.
-pub fn misses_slice(columns: &[ColumnDef], restrictions: &[Restriction]) -> bool
+pub fn misses_slice<V: Drop>(columns: &[ColumnDef], restrictions: &[Restriction<V>]) -> bool
     ensures { result ≡ misses_slice_of columns.now restrictions.now }
 {
     let open = open_place(columns, restrictions);
@@ -82,7 +85,7 @@ pub fn misses_slice(columns: &[ColumnDef], restrictions: &[Restriction]) -> bool
         || has_one_behind(columns, open, restrictions)
 }
 
-fn fixed_times(restrictions: &[Restriction], place: usize) -> usize
+fn fixed_times<V: Drop>(restrictions: &[Restriction<V>], place: usize) -> usize
     ensures { result ≡ fixed_times_of restrictions.now place }
 {
     restrictions
@@ -91,7 +94,7 @@ fn fixed_times(restrictions: &[Restriction], place: usize) -> usize
         .count()
 }
 
-fn lower_times(restrictions: &[Restriction], place: usize) -> usize
+fn lower_times<V: Drop>(restrictions: &[Restriction<V>], place: usize) -> usize
     ensures { result ≡ lower_times_of restrictions.now place }
 {
     restrictions
@@ -100,7 +103,7 @@ fn lower_times(restrictions: &[Restriction], place: usize) -> usize
         .count()
 }
 
-fn upper_times(restrictions: &[Restriction], place: usize) -> usize
+fn upper_times<V: Drop>(restrictions: &[Restriction<V>], place: usize) -> usize
     ensures { result ≡ upper_times_of restrictions.now place }
 {
     restrictions
@@ -109,7 +112,7 @@ fn upper_times(restrictions: &[Restriction], place: usize) -> usize
         .count()
 }
 
-fn is_twice_at(restrictions: &[Restriction], place: usize) -> bool
+fn is_twice_at<V: Drop>(restrictions: &[Restriction<V>], place: usize) -> bool
     ensures { result ≡ is_twice_at_of restrictions.now place }
 {
     let fixed = fixed_times(restrictions, place);
@@ -119,7 +122,7 @@ fn is_twice_at(restrictions: &[Restriction], place: usize) -> bool
 }
 
 /// Whether a key column is fixed twice, fixed and bounded, or bounded twice from one side.
-pub fn is_twice(columns: &[ColumnDef], restrictions: &[Restriction]) -> bool
+pub fn is_twice<V: Drop>(columns: &[ColumnDef], restrictions: &[Restriction<V>]) -> bool
     ensures { result ≡ is_twice_of columns.now restrictions.now }
 {
     for (place, column) in columns.iter().enumerate() {
@@ -130,38 +133,14 @@ pub fn is_twice(columns: &[ColumnDef], restrictions: &[Restriction]) -> bool
     false
 }
 
-fn is_absent(value: &Supplied) -> bool
-    ensures { result ≡ is_absent_of value.now }
-{
-    match value {
-        Supplied::Null | Supplied::NotSet => true,
-        Supplied::Missing | Supplied::Mismatched | Supplied::Value(_) => false,
-    }
-}
-
-fn is_null_key(columns: &[ColumnDef], restriction: &Restriction) -> bool
-    ensures { result ≡ is_null_key_of columns.now restriction.now }
-{
-    is_key_at(columns, restriction.column) && is_absent(&restriction.value)
-}
-
-/// Whether a key column is null or not set.
-pub fn has_null(columns: &[ColumnDef], restrictions: &[Restriction]) -> bool
-    ensures { result ≡ has_null_of columns.now restrictions.now }
-{
-    restrictions
-        .iter()
-        .any(|restriction| is_null_key(columns, restriction))
-}
-
-fn is_other(columns: &[ColumnDef], restriction: &Restriction) -> bool
+fn is_other<V: Drop>(columns: &[ColumnDef], restriction: &Restriction<V>) -> bool
     ensures { result ≡ is_other_of columns.now restriction.now }
 {
     !is_key_at(columns, restriction.column)
 }
 
 /// Whether a column is restricted that is not of the key.
-pub fn filters(columns: &[ColumnDef], restrictions: &[Restriction]) -> bool
+pub fn filters<V: Drop>(columns: &[ColumnDef], restrictions: &[Restriction<V>]) -> bool
     ensures { result ≡ filters_of columns.now restrictions.now }
 {
     restrictions
@@ -169,14 +148,14 @@ pub fn filters(columns: &[ColumnDef], restrictions: &[Restriction]) -> bool
         .any(|restriction| is_other(columns, restriction))
 }
 
-fn is_on_row(columns: &[ColumnDef], restriction: &Restriction) -> bool
+fn is_on_row<V: Drop>(columns: &[ColumnDef], restriction: &Restriction<V>) -> bool
     ensures { result ≡ is_on_row_of columns.now restriction.now }
 {
     is_clustering_at(columns, restriction.column)
 }
 
 /// Whether a clustering column is restricted.
-pub fn names_rows(columns: &[ColumnDef], restrictions: &[Restriction]) -> bool
+pub fn names_rows<V: Drop>(columns: &[ColumnDef], restrictions: &[Restriction<V>]) -> bool
     ensures { result ≡ names_rows_of columns.now restrictions.now }
 {
     restrictions

@@ -10,8 +10,9 @@ mod places;
 mod restriction;
 mod rows;
 
-pub use checks::{filters, has_null, is_twice, is_whole, misses_slice, misses_whole, names_rows};
+pub use checks::{filters, is_twice, is_whole, misses_slice, misses_whole, names_rows};
 pub use laws::bounds_enclose_rows;
-pub use places::is_key_at;
+pub use partition::partition_of;
+pub use places::{is_clustering, is_key, is_key_at, is_partition};
 pub use restriction::{Restriction, Restrictions};
-pub use rows::{RowRange, row_range};
+pub use rows::{RowBounds, is_long, row_bounds, row_bytes};

@@ -2,35 +2,23 @@
 
 ghost use Rattle.std.specs.Prelude.{◌≡◌, ◌++◌, ◌&&◌, not, flat_map, option_copied, IfOk, OnOk};
 ghost use Rattle.key_restrictions.specs.Places.{is_partition_at as is_partition_at_of};
-ghost use Rattle.key_restrictions.specs.Rows.{bytes_of as bytes_of_supplied, bytes_in as bytes_in_of, key_parts, framed, key_bytes as key_bytes_of, partition_of as partition_of_relations};
+ghost use Rattle.key_restrictions.specs.Rows.{bytes_in as bytes_in_of, key_parts, framed, key_bytes as key_bytes_of, partition_of as partition_of_relations};
 
 use crate::places::{fixing, is_partition, is_partition_at};
 use crate::restriction::Restriction;
 use changes::Partition;
-use cql_values::encode;
+use cql_values::{CqlValue, encode};
 use cs_base::Bytes;
 use schema_book::ColumnDef;
-use statement_values::Supplied;
 use std::alloc::{AllocError, Global};
 use token_ring::token;
 
-fn bytes_of(alloc: Global, value: &Supplied) -> Result<Bytes, AllocError>
-    ensures { IfOk result (λ bytes. bytes ≡ bytes_of_supplied value.now) }
-{
-    match value {
-        Supplied::Value(value) => encode(alloc, value),
-        Supplied::Missing | Supplied::Mismatched | Supplied::Null | Supplied::NotSet => {
-            Ok(Bytes::new(alloc))
-        }
-    }
-}
-
 /// The bytes of the value that a column is to equal.
-fn bytes_in(alloc: Global, relation: Option<&Restriction>) -> Result<Bytes, AllocError>
+fn bytes_in(alloc: Global, relation: Option<&Restriction<CqlValue>>) -> Result<Bytes, AllocError>
     ensures { IfOk result (λ bytes. bytes ≡ bytes_in_of (option_copied relation.entry)) }
 {
     match relation {
-        Some(restriction) => bytes_of(alloc, &restriction.value),
+        Some(restriction) => encode(alloc, &restriction.value),
         None => Ok(Bytes::new(alloc)),
     }
 }
@@ -51,7 +39,7 @@ fn add_framed(key: &mut Vec<u8>, part: &[u8]) -> Result<(), AllocError>
 fn composite_bytes(
     alloc: Global,
     columns: &[ColumnDef],
-    restrictions: &[Restriction],
+    restrictions: &[Restriction<CqlValue>],
 ) -> Result<Bytes, AllocError>
     ensures { IfOk result (λ key. key ≡ flat_map framed (key_parts columns.now restrictions.now)) }
 {
@@ -77,7 +65,7 @@ fn has_one_column(columns: &[ColumnDef]) -> bool
 fn key_bytes(
     alloc: Global,
     columns: &[ColumnDef],
-    restrictions: &[Restriction],
+    restrictions: &[Restriction<CqlValue>],
 ) -> Result<Bytes, AllocError>
     ensures { IfOk result (λ key. key ≡ key_bytes_of columns.now restrictions.now) }
 {
@@ -89,11 +77,11 @@ fn key_bytes(
 }
 
 /// The partition of a table that relations name.
-pub(crate) fn partition_of(
+pub fn partition_of(
     alloc: Global,
     table: u16,
     columns: &[ColumnDef],
-    restrictions: &[Restriction],
+    restrictions: &[Restriction<CqlValue>],
 ) -> Result<Partition, AllocError>
     ensures { IfOk result (λ partition. partition ≡ partition_of_relations table columns.now restrictions.now) }
 {

@@ -7,7 +7,8 @@ use crate::operators::{is_equal, is_lower, is_upper};
 use crate::restriction::Restriction;
 use schema_book::{ColumnDef, ColumnKind};
 
-pub(crate) fn is_partition(kind: ColumnKind) -> bool
+/// Whether it is a column of the partition key.
+pub fn is_partition(kind: ColumnKind) -> bool
     ensures { result ≡ is_partition_of kind }
 {
     match kind {
@@ -16,7 +17,8 @@ pub(crate) fn is_partition(kind: ColumnKind) -> bool
     }
 }
 
-pub(crate) fn is_clustering(kind: ColumnKind) -> bool
+/// Whether it is a clustering column.
+pub fn is_clustering(kind: ColumnKind) -> bool
     ensures { result ≡ is_clustering_of kind }
 {
     match kind {
@@ -25,7 +27,8 @@ pub(crate) fn is_clustering(kind: ColumnKind) -> bool
     }
 }
 
-pub(crate) fn is_key(kind: ColumnKind) -> bool
+/// Whether it is a column of the key.
+pub fn is_key(kind: ColumnKind) -> bool
     ensures { result ≡ is_key_of kind }
 {
     match kind {
@@ -62,25 +65,25 @@ pub fn is_key_at(columns: &[ColumnDef], place: usize) -> bool
     }
 }
 
-pub(crate) fn fixes(place: usize, restriction: &Restriction) -> bool
+pub(crate) fn fixes<V: Drop>(place: usize, restriction: &Restriction<V>) -> bool
     ensures { result ≡ fixes_of place restriction.now }
 {
     restriction.column == place && is_equal(restriction.operator)
 }
 
-pub(crate) fn bounds_below(place: usize, restriction: &Restriction) -> bool
+pub(crate) fn bounds_below<V: Drop>(place: usize, restriction: &Restriction<V>) -> bool
     ensures { result ≡ bounds_below_of place restriction.now }
 {
     restriction.column == place && is_lower(restriction.operator)
 }
 
-pub(crate) fn bounds_above(place: usize, restriction: &Restriction) -> bool
+pub(crate) fn bounds_above<V: Drop>(place: usize, restriction: &Restriction<V>) -> bool
     ensures { result ≡ bounds_above_of place restriction.now }
 {
     restriction.column == place && is_upper(restriction.operator)
 }
 
-pub(crate) fn is_fixed(restrictions: &[Restriction], place: usize) -> bool
+pub(crate) fn is_fixed<V: Drop>(restrictions: &[Restriction<V>], place: usize) -> bool
     ensures { result ≡ is_fixed_of restrictions.now place }
 {
     restrictions
@@ -88,7 +91,10 @@ pub(crate) fn is_fixed(restrictions: &[Restriction], place: usize) -> bool
         .any(|restriction| fixes(place, restriction))
 }
 
-pub(crate) fn fixing(restrictions: &[Restriction], place: usize) -> Option<&Restriction>
+pub(crate) fn fixing<V: Drop>(
+    restrictions: &[Restriction<V>],
+    place: usize,
+) -> Option<&Restriction<V>>
     ensures { option_copied result ≡ fixing_of restrictions.now place }
 {
     restrictions
@@ -96,7 +102,10 @@ pub(crate) fn fixing(restrictions: &[Restriction], place: usize) -> Option<&Rest
         .find(|restriction| fixes(place, restriction))
 }
 
-pub(crate) fn lower_bound(restrictions: &[Restriction], place: usize) -> Option<&Restriction>
+pub(crate) fn lower_bound<V: Drop>(
+    restrictions: &[Restriction<V>],
+    place: usize,
+) -> Option<&Restriction<V>>
     ensures { option_copied result ≡ lower_bound_of restrictions.now place }
 {
     restrictions
@@ -104,7 +113,10 @@ pub(crate) fn lower_bound(restrictions: &[Restriction], place: usize) -> Option<
         .find(|restriction| bounds_below(place, restriction))
 }
 
-pub(crate) fn upper_bound(restrictions: &[Restriction], place: usize) -> Option<&Restriction>
+pub(crate) fn upper_bound<V: Drop>(
+    restrictions: &[Restriction<V>],
+    place: usize,
+) -> Option<&Restriction<V>>
     ensures { option_copied result ≡ upper_bound_of restrictions.now place }
 {
     restrictions
@@ -113,7 +125,7 @@ pub(crate) fn upper_bound(restrictions: &[Restriction], place: usize) -> Option<
 }
 
 /// The place of the first column that is not a fixed column of the key.
-pub(crate) fn open_place(columns: &[ColumnDef], restrictions: &[Restriction]) -> usize
+pub(crate) fn open_place<V: Drop>(columns: &[ColumnDef], restrictions: &[Restriction<V>]) -> usize
     ensures { result ≡ open_place_of columns.now restrictions.now }
 {
     for (place, column) in columns.iter().enumerate() {

@@ -2,14 +2,13 @@
 
 use cql_statement::RelationOperator;
 use cs_base::Items;
-use statement_values::Supplied;
 
-/// A relation of a WHERE: a column by its place in the table, and what stands for its value.
-#[derive(Debug, Drop)]
-pub struct Restriction {
+/// A relation on a column of the key: the column by its place in the table, and its value, where that is there yet.
+#[derive(Drop)]
+pub struct Restriction<V: Drop> {
     pub column: usize,
     pub operator: RelationOperator,
-    pub value: Supplied,
+    pub value: V,
 }
 
-pub type Restrictions = Items<Restriction>;
+pub type Restrictions<V> = Items<Restriction<V>>;

@@ -14,3 +14,10 @@ same_no_memory a b e = cc
 pub no_memory_is : {S A : Type 0} (r : Result A (LoadError S)) (store s : S) → IfErr r (λ e. e ≡ NoMemory store) → IsErrOf r (NoMemory s) → store ≡ s
 no_memory_is (Ok x) store s refused is = cc
 no_memory_is (Err e) store s refused is = cc
+
+-- the same refusal of a call that gives something else
+pub refused_as : {S A B : Type 0} (e d : LoadError S) → IsErrOf {T = A} {E = LoadError S} (Err e) d → IsErrOf {T = B} {E = LoadError S} (Err e) d
+refused_as e d is = cc
+
+pub ok_is_none : {S A : Type 0} (a : A) (d : LoadError S) → IsErrOf {T = A} {E = LoadError S} (Ok a) d → ⊥
+ok_is_none a d is = cc

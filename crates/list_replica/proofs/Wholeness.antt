@@ -57,6 +57,10 @@ whole_reserved honest disk disk' log log' table added w file gate files settled 
   added = subst (λ (n : ℕ). IfSome added (λ m. m ≤ n)) (sym gate) w.added;
 }
 
+-- another store with the same disk
+pub whole_on_same : (honest : Type 0) (disk disk' : Disk) (log : LogPlace) (table : Memtable) (added : Option ℕ) → disk' ≡ disk → IsWhole honest disk log table added → IsWhole honest disk' log table added
+whole_on_same honest disk disk' log table added same whole = subst (λ (d : Disk). IsWhole honest d log table added) (sym same) whole
+
 pub leaves_same : (honest : Type 0) (disk : Disk) (log : LogPlace) (table : Memtable) (added : Option ℕ) → honest → IsWhole honest disk log table added → AlwaysLeaves StandsFor (IsSameKept (kept_in table)) disk disk
 leaves_same honest disk log table added h w = leaves_still StandsFor (kept_in table) disk (whole_is_safe honest disk log table added h w)
 

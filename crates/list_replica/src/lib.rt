@@ -3,10 +3,12 @@
 
 mod contents;
 mod hints;
+mod in_memory;
 mod memtable;
 mod on_log;
 mod removing;
 mod replay;
 mod staging;
 
+pub use in_memory::MemListReplica;
 pub use on_log::ListReplica;

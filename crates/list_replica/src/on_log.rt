@@ -29,11 +29,11 @@ const FLUSHED_EACH: u64 = 1 << 20;
 /// What a node keeps, in one log of a store, and in memory the contents that the log's entries make.
 #[derive(Drop)]
 pub struct ListReplica<S> {
-    store: S,
-    log: CommitLog,
-    memtable: Memtable,
+    pub(crate) store: S,
+    pub(crate) log: CommitLog,
+    pub(crate) memtable: Memtable,
     /// How many bytes came to the log since the last flush.
-    since_flush: Option<u64>,
+    pub(crate) since_flush: Option<u64>,
 }
 
 /// The file of the log.

@@ -42,7 +42,7 @@ sorting_total =
     then_total order_total (then_total (on_total (λ (d : Draft). d.timestamp) (back_total (options_total int_cmp_total))) (on_total (λ (d : Draft). d.value) (back_total value_total)))
 
 -- timestamps of one clock
-times_alike : (a b : Option ℤ) → is_some a ≡ is_some b → option_cmp int_cmp a b ≡ timestamp_cmp a b
+pub times_alike : (a b : Option ℤ) → is_some a ≡ is_some b → option_cmp int_cmp a b ≡ timestamp_cmp a b
 times_alike None None p = refl
 times_alike None (Some b) p = absurd (false≢true p)
 times_alike (Some a) None p = absurd (true≢false p)

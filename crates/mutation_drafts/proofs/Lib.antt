@@ -1,2 +1,3 @@
 mod KeptLaws
 mod CountedLaws
+mod OneLaws

@@ -2,8 +2,10 @@
 #![tactic(auto)]
 
 mod keeping;
+mod laws;
 mod length;
 mod order;
 
 pub use keeping::kept;
+pub use laws::kept_are_one;
 pub use length::is_long;

@@ -1,8 +1,18 @@
-pub mod Open
-pub mod Stored
-pub mod Chains
-pub mod Arrivals
-pub mod Taken
-pub mod Upto
-pub mod Matters
-pub mod Whole
+mod Ordered
+mod Sending
+mod Slots
+mod Asking
+mod Bodies
+mod Reading
+mod Coming
+mod Beginning
+mod Settling
+mod Taking
+mod Looking
+mod Entry
+mod Stepping
+mod Requests
+mod Answered
+mod Running
+mod Refusing
+mod Ending

@@ -1,11 +1,21 @@
-//! One node: what it holds, and the requests whose coordinator it is.
+//! One node: it takes an event, keeps what the event changes, and tells what comes of it. What it keeps stands in a replica, whatever
+//! that is made of; in memory it has its time, what it takes for dead, and the open requests of clients.
 #![tactic(auto)]
 
-mod contents;
-mod held;
-mod kept;
+mod asks;
+mod base;
+mod fits;
+mod hearing;
+mod hears;
+mod keep;
+mod matter;
+mod memory;
 mod node;
-mod requests;
-mod taking;
+mod opening;
+mod outcome;
+mod slot;
+mod times;
+mod work;
 
-pub use node::{Node, StepError};
+pub use node::{Node, NodeCore};
+pub use outcome::{Lost, StepError};

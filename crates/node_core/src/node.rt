@@ -1,130 +1,190 @@
-//! A node: an event's matter at the time to which the node's own rises.
+//! A node: an event is taken in memory, kept by one commit, and told.
 
-ghost use Rattle.std.specs.Prelude.{◌≡◌, ◌<◌, ◌≤◌, ◌^◌, ◌-◌, ◌↔◌, [], Err, IsNone, IfOk, IfSome, OnErr, length, max};
-ghost use Rattle.node_steps.specs.Steps.{message_time as message_time_of, risen_time, end_of_time, started_by};
-ghost use Rattle.node_core.specs.declared.node.StepError.TheVariants.{NoRoom, NoMemory};
+ghost use Rattle.std.specs.Prelude.{◌≡◌, ◌≤◌, ◌<◌, ℕ, [], true, false, IfOk, OnOk, OnErr, IsErrOf};
+ghost use Rattle.cs_base.specs.Faults.{HasRisen};
+ghost use Rattle.cs_store.specs.Disk.{IsSettled};
+ghost use Rattle.durable_state.specs.State.{Durable, IsSameKept};
+ghost use Rattle.node_steps.specs.State.{loaded};
+ghost use Rattle.node_steps.specs.Steps.{risen_time, end_of_time};
+ghost use Rattle.node_steps.specs.Stops.{remains};
+ghost use Rattle.replica.specs.Finding.{AlwaysLeaves};
+ghost use Rattle.replica.specs.Kept.{IsKeptOf};
+ghost use Rattle.replica.specs.declared.error.LoadError.TheVariants as load_error;
+ghost use Rattle.node_core.specs.Nodes.{state_with, Steps, HasNoRoom, IsTooLarge, Halts, IsBeforeOrBehind};
+ghost use Rattle.node_core.specs.Memory.{has_stopped as has_stopped_of};
+ghost use Rattle.node_core.specs.declared.outcome.StepError.TheVariants as step_error;
 
-use crate::kept::Kept;
-use cs_base::{Items, Micros, NodeId, ReqId};
-use peer_messages::{Event, NodeIds, Outputs, Setting, What};
-use std::alloc::{AllocError, Global};
+use crate::base::Base;
+use crate::memory::{Memory, advance};
+use crate::outcome::{Lost, StepError};
+use cs_base::{Items, NodeId};
+use peer_messages::{Event, Outputs, Setting};
+use replica::{Kept, LoadError, Replica};
+use std::alloc::Global;
+use std::collections::BTreeMap;
 use std::marker::Model;
 
-/// No node's time passes this.
-const END_OF_TIME: u64 = (1 << 63) - (1 << 21);
-
-/// A clock's reading above this counts as this.
-const LATEST_READING: u64 = 1 << 62;
-
-/// Why a node takes no step.
-#[derive(Clone, Copy, Debug, PartialEq, Eq)]
-pub enum StepError {
-    /// The node's time would pass its end, 2^63 - 2^21 microseconds.
-    NoRoom,
-    NoMemory,
-}
-
-impl From<AllocError> for StepError {
-    ghost from_gives = { λ _ r. r ≡ NoMemory };
-
-    fn from(_: AllocError) -> StepError {
-        StepError::NoMemory
-    }
-}
-
-fn message_time(what: &What) -> u128
-    ensures { result ≡ message_time_of what.now }
-{
-    match what {
-        What::Deliver(message) => u128::from(message.time.count()) + 1,
-        What::Client(_) | What::Alive(..) | What::Tick => 0,
-    }
-}
-
-/// The time to which a node's rises at an event, unless it would pass its end.
-fn risen(time: Micros, event: &Event) -> Option<Micros>
-    ensures none { IsNone result ↔ (end_of_time < risen_time time event.now) }
-    ensures value { IfSome result (λ risen. risen ≡ risen_time time event.now) }
-{
-    let next = u128::from(time.count()) + 1;
-    let reading = u128::from(event.clock.count().min(LATEST_READING));
-    let risen = next.max(message_time(&event.what).max(reading));
-    if risen > u128::from(END_OF_TIME) {
-        return None;
-    }
-    Some(Micros::new(risen as u64))
-}
-
-fn request_began(me: NodeId, time: Micros, what: &What) -> Option<ReqId>
-    ensures { result ≡ started_by me time what.now }
-{
-    match what {
-        What::Client(_) => Some(ReqId { node: me, time }),
-        What::Deliver(_) | What::Alive(..) | What::Tick => None,
-    }
-}
-
-/// One node of a cluster.
+/// What a node has in memory.
 #[derive(Drop)]
-pub struct Node {
-    me: NodeId,
-    setting: Setting,
-    time: Micros,
-    down: NodeIds,
-    kept: Kept,
+pub struct NodeCore {
+    memory: Memory,
+    runs: bool,
 }
 
-impl Model for Node {
-    ghost use Rattle.node_core.specs.Sites.{Site, HoldsNode};
-    ghost use Rattle.node_core.specs.Gives.{view_at};
+impl Model for NodeCore {
+    ghost use Rattle.node_core.specs.Nodes.{Core};
+    ghost use Rattle.node_core.specs.Memory.{core_of, HoldsCore};
 
-    ghost Value = { Site };
+    ghost Value = { Core };
 
-    ghost view = { λ a. record { setting = a.setting; me = a.me; state = view_at a.time a.down a.kept } };
+    ghost view = { λ a. record (core_of a.memory) { runs = a.runs } };
 
-    ghost invariant = { λ a. HoldsNode a.time a.kept };
+    ghost invariant = { λ a. HoldsCore a.memory.base a.memory.time };
 }
 
-impl Node {
-    ghost use Rattle.node_core.specs.Sites.{Steps, fresh_site};
+/// A node: what it has in memory, and what keeps its durable state.
+#[derive(Drop)]
+pub struct Node<R: Replica> {
+    pub core: NodeCore,
+    pub replica: R,
+}
 
-    /// A node that holds nothing yet, and takes all others for alive.
-    pub fn load(alloc: Global, me: NodeId, setting: Setting) -> Node
-        ensures { result ≡ fresh_site setting me }
+fn has_stopped(told: &Result<Outputs, StepError>) -> bool
+    ensures { result ≡ has_stopped_of told.now }
+{
+    matches!(told, Err(StepError::Failed(_)))
+}
+
+impl NodeCore {
+    /// The nodes that it takes for dead.
+    pub fn down(&self) -> &[NodeId]
+        ensures { result.now ≡ self.now.down }
     {
-        Node {
-            me,
+        self.memory.base.down.as_slice()
+    }
+
+    fn loaded(alloc: Global, me: NodeId, setting: Setting, kept: Kept) -> NodeCore
+        ensures { result ≡ record { setting = setting; me = me; runs = true; time = kept.ceiling; risen = kept.ceiling; kept = kept; down = []; writes = []; reads = [] } }
+    {
+        let time = kept.ceiling;
+        let base = Base {
             setting,
-            time: Micros::new(0),
+            me,
             down: Items::new(alloc),
-            kept: Kept::new(alloc),
+            writes: BTreeMap::new(alloc),
+            reads: BTreeMap::new(alloc),
+        };
+        NodeCore {
+            memory: Memory { base, time, kept },
+            runs: true,
         }
     }
 
-    /// Takes an event. An error leaves the node as it was, and the event has not happened.
-    pub fn step(&mut self, alloc: Global, event: Event) -> Result<Outputs, StepError>
-        ensures ok { IfOk result (λ outputs. Steps self.old event outputs self.new) }
-        ensures no_room { (result ≡ Err NoRoom) ↔ (end_of_time < risen_time self.old.state.time event) }
-        ensures err { OnErr result (self.new ≡ self.old) }
+    fn step<R: Replica>(
+        &mut self,
+        replica: &mut R,
+        alloc: Global,
+        event: Event,
+    ) -> Result<Outputs, StepError>
+        requires whole { self.old.runs ≡ true → R.is_whole replica.old }
+        requires tied { self.old.runs ≡ true → R.Disk.is_honest → IsKeptOf (R.durable replica.old) self.old.kept }
+
+        ensures runs { OnOk result (self.old.runs ≡ true) }
+        ensures ok { IfOk result (λ outputs. R.Disk.is_honest → Steps self.old (R.durable replica.old) event outputs self.new (R.durable replica.new)) }
+        ensures whole { self.new.runs ≡ true → R.is_whole replica.new }
+        ensures tied { self.new.runs ≡ true → R.Disk.is_honest → IsKeptOf (R.durable replica.new) self.new.kept }
+        ensures late { OnOk result (risen_time self.old.time event ≤ end_of_time) }
+        ensures no_room { IsErrOf result step_error.NoRoom → R.Disk.is_honest → HasNoRoom self.old (R.durable replica.old) (R.log_end replica.old) event }
+        ensures too_large { (p : _) → IsErrOf result (step_error.TooLarge p) → R.Disk.is_honest → IsTooLarge self.old (R.durable replica.old) event p }
+        ensures same { OnErr result (self.new.runs ≡ true → (self.new ≡ self.old) × (R.Disk.is_honest → R.durable replica.new ≡ R.durable replica.old)) }
+        ensures failed { (l : _) → IsErrOf result (step_error.Failed l) → self.new ≡ record self.old { runs = false } }
+        ensures others { OnErr result (((l : _) → IsErrOf result (step_error.Failed l) → ⊥) → self.new.runs ≡ true) }
+        ensures cause { (l : _) → IsErrOf result (step_error.Failed l) → self.old.runs ≡ true → HasRisen (R.Disk.faults (R.disk replica.old)) (R.Disk.faults (R.disk replica.new)) }
+        ensures halts { (l : _) → IsErrOf result (step_error.Failed l) → self.old.runs ≡ true → R.Disk.is_honest → Halts self.old (R.durable replica.old) event (remains l.started l.entries) R.stands_for (R.Disk.disk (R.disk replica.new)) }
+        ensures dead { self.old.runs ≡ false → (self.new ≡ self.old) × (replica.new ≡ replica.old) }
+        ensures told { (l : _) → IsErrOf result (step_error.Failed l) → self.old.runs ≡ false → remains l.started l.entries ≡ [] }
+        ensures surely { self.old.runs ≡ true → ((n : ℕ) → R.Disk.spares (R.disk replica.old) n) → ((l : _) → IsErrOf result (step_error.Failed l) → ⊥) × ((n : ℕ) → R.Disk.spares (R.disk replica.new) n) }
+
+        // A crash at any moment of the step leaves what was kept before it or behind it.
+        ensures any_moment { self.old.runs ≡ true → R.Disk.is_honest → AlwaysLeaves R.stands_for (IsBeforeOrBehind self.old (R.durable replica.old) event) (R.Disk.disk (R.disk replica.old)) (R.Disk.disk (R.disk replica.new)) }
     {
-        let Some(time) = risen(self.time, &event) else {
-            return Err(StepError::NoRoom);
-        };
-        let started = request_began(self.me, time, &event.what);
-        let given = self.kept.take(
-            alloc,
-            &self.setting,
-            &mut self.down,
-            self.me,
-            time,
-            event.what,
-        )?;
-        self.time = time;
-        Ok(Outputs {
-            time,
-            started,
-            sends: given.messages,
-            entries: given.entries,
+        if !self.runs {
+            return Err(StepError::Failed(Lost::nothing(alloc)));
+        }
+        let result = advance(&mut self.memory, replica, alloc, event);
+        self.runs = !has_stopped(&result);
+        result
+    }
+}
+
+impl<R: Replica> Node<R> {
+    /// A node with what its disk has. It takes all others for alive, and its time is the kept ceiling.
+    pub fn load(
+        alloc: Global,
+        me: NodeId,
+        setting: Setting,
+        store: R::Disk,
+    ) -> Result<Node<R>, LoadError<R::Disk>>
+        // After a restart, what is read is what is on the disk.
+        requires settled { R.Disk.is_honest → (k : ℕ) → IsSettled k (R.Disk.disk store) }
+
+        ensures found { IfOk result (λ n. R.Disk.is_honest → R.stands_for (R.Disk.disk store).seen (R.durable n.replica)) }
+        ensures state { IfOk result (λ n. R.Disk.is_honest → state_with n.core (R.durable n.replica) ≡ loaded (R.durable n.replica)) }
+        ensures core { IfOk result (λ n. (n.core.me ≡ me) × (n.core.setting ≡ setting) × (n.core.runs ≡ true)) }
+        ensures tied { IfOk result (λ n. R.Disk.is_honest → IsKeptOf (R.durable n.replica) n.core.kept) }
+        ensures whole { IfOk result (λ n. R.is_whole n.replica) }
+
+        // A crash at any moment leaves what was there.
+        ensures any_moment { IfOk result (λ n. R.Disk.is_honest → (d : Durable) → R.stands_for (R.Disk.disk store).seen d → AlwaysLeaves R.stands_for (IsSameKept d) (R.Disk.disk store) (R.Disk.disk (R.disk n.replica))) }
+        ensures any_moment_failed { (s : _) → IsErrOf result (load_error.Failed s) → R.Disk.is_honest → (d : Durable) → R.stands_for (R.Disk.disk store).seen d → AlwaysLeaves R.stands_for (IsSameKept d) (R.Disk.disk store) (R.Disk.disk s) }
+        ensures any_moment_no_memory { (s : _) → IsErrOf result (load_error.NoMemory s) → R.Disk.is_honest → (d : Durable) → R.stands_for (R.Disk.disk store).seen d → AlwaysLeaves R.stands_for (IsSameKept d) (R.Disk.disk store) (R.Disk.disk s) }
+
+        ensures failed { (s : _) → IsErrOf result (load_error.Failed s) → HasRisen (R.Disk.faults store) (R.Disk.faults s) }
+        ensures damaged { (s : _) (f p : ℕ) → IsErrOf result (load_error.Damaged s f p) → R.Disk.is_honest → R.is_damaged (R.Disk.disk store).seen f p }
+        ensures surely { ((n : ℕ) → R.Disk.spares store n) → ((s : _) → IsErrOf result (load_error.Failed s) → ⊥) × IfOk result (λ l. (n : ℕ) → R.Disk.spares (R.disk l.replica) n) }
+    {
+        let (replica, kept) = R::load(alloc, store)?;
+        Ok(Node {
+            core: NodeCore::loaded(alloc, me, setting, kept),
+            replica,
         })
+    }
+
+    /// Takes an event.
+    ///
+    /// After `NoRoom`, `TooLarge` and `NoMemory` the node and what it keeps are as they were, and the event has not happened.
+    /// After `Failed` it has stopped: the step is made, with its outputs lost, or it is not, and each later one answers `Failed`
+    /// too.
+    pub fn step(&mut self, alloc: Global, event: Event) -> Result<Outputs, StepError>
+        requires whole { self.old.core.runs ≡ true → R.is_whole self.old.replica }
+        requires tied { self.old.core.runs ≡ true → R.Disk.is_honest → IsKeptOf (R.durable self.old.replica) self.old.core.kept }
+
+        ensures runs { OnOk result (self.old.core.runs ≡ true) }
+        ensures ok { IfOk result (λ outputs. R.Disk.is_honest → Steps self.old.core (R.durable self.old.replica) event outputs self.new.core (R.durable self.new.replica)) }
+        ensures whole { self.new.core.runs ≡ true → R.is_whole self.new.replica }
+        ensures tied { self.new.core.runs ≡ true → R.Disk.is_honest → IsKeptOf (R.durable self.new.replica) self.new.core.kept }
+        ensures late { OnOk result (risen_time self.old.core.time event ≤ end_of_time) }
+        ensures no_room { IsErrOf result step_error.NoRoom → R.Disk.is_honest → HasNoRoom self.old.core (R.durable self.old.replica) (R.log_end self.old.replica) event }
+        ensures too_large { (p : _) → IsErrOf result (step_error.TooLarge p) → R.Disk.is_honest → IsTooLarge self.old.core (R.durable self.old.replica) event p }
+        ensures same { OnErr result (self.new.core.runs ≡ true → (self.new.core ≡ self.old.core) × (R.Disk.is_honest → R.durable self.new.replica ≡ R.durable self.old.replica)) }
+        ensures failed { (l : _) → IsErrOf result (step_error.Failed l) → self.new.core ≡ record self.old.core { runs = false } }
+        ensures others { OnErr result (((l : _) → IsErrOf result (step_error.Failed l) → ⊥) → self.new.core.runs ≡ true) }
+        ensures cause { (l : _) → IsErrOf result (step_error.Failed l) → self.old.core.runs ≡ true → HasRisen (R.Disk.faults (R.disk self.old.replica)) (R.Disk.faults (R.disk self.new.replica)) }
+        ensures halts { (l : _) → IsErrOf result (step_error.Failed l) → self.old.core.runs ≡ true → R.Disk.is_honest → Halts self.old.core (R.durable self.old.replica) event (remains l.started l.entries) R.stands_for (R.Disk.disk (R.disk self.new.replica)) }
+        ensures dead { self.old.core.runs ≡ false → (self.new.core ≡ self.old.core) × (self.new.replica ≡ self.old.replica) }
+        ensures told { (l : _) → IsErrOf result (step_error.Failed l) → self.old.core.runs ≡ false → remains l.started l.entries ≡ [] }
+        ensures surely { self.old.core.runs ≡ true → ((n : ℕ) → R.Disk.spares (R.disk self.old.replica) n) → ((l : _) → IsErrOf result (step_error.Failed l) → ⊥) × ((n : ℕ) → R.Disk.spares (R.disk self.new.replica) n) }
+
+        // A crash at any moment of the step leaves what was kept before it or behind it.
+        ensures any_moment { self.old.core.runs ≡ true → R.Disk.is_honest → AlwaysLeaves R.stands_for (IsBeforeOrBehind self.old.core (R.durable self.old.replica) event) (R.Disk.disk (R.disk self.old.replica)) (R.Disk.disk (R.disk self.new.replica)) }
+    {
+        self.core.step(&mut self.replica, alloc, event)
+    }
+
+    /// The node's disk, to be loaded again.
+    pub fn release(self) -> R::Disk
+        ensures { result ≡ R.disk self.replica }
+    {
+        self.replica.release()
     }
 }

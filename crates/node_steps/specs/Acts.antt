@@ -1,7 +1,8 @@
 -- The small moves of a node: each takes one thing, and is told of that node's state alone.
-use Rattle.std.specs.Prelude.{◌≡◌, ℕ, Bool, ◌<◌, ◌==◌, if◌then◌else◌, List, [], ◌∷◌, ◌++◌}
+use Rattle.std.specs.Prelude.{◌≡◌, ℕ, Bool, ◌+◌, ◌<◌, ◌==◌, nat_lt, if◌then◌else◌, List, [], ◌∷◌, ◌++◌, MatchBool}
 use Rattle.cs_base.specs.declared.ids.ReqId.{ReqId}
 use Rattle.changes.specs.declared.Held.{Held}
+use Rattle.changes.specs.declared.Partition.{Partition}
 use Rattle.peer_messages.specs.declared.event.Ask.{Ask}
 use Rattle.peer_messages.specs.declared.message.Body.{Body}
 use Rattle.peer_messages.specs.declared.message.Body.TheVariants.{Write, WriteAck, Read, ReadReply}
@@ -9,16 +10,19 @@ use Rattle.peer_messages.specs.declared.outcome.Outbound.{Outbound}
 use Rattle.peer_messages.specs.declared.outcome.Move.{Move}
 use Rattle.peer_messages.specs.declared.setting.Setting.{Setting}
 use Rattle.peer_messages.specs.Settings.{marked}
-use Rattle.node_steps.specs.State.{NodeState, OpenWrite, OpenRead, changes_of}
+use Rattle.durable_state.specs.State.{changes_of}
+use Rattle.durable_state.specs.Taking.{TakesIn, ArriveAt}
+use Rattle.node_steps.specs.State.{NodeState, OpenWrite, OpenRead}
 use Rattle.node_steps.specs.Effects.{Effects, nothing, effects_of, AtRequest}
 use Rattle.node_steps.specs.Writes.{HearsAck}
 use Rattle.node_steps.specs.Reads.{HearsReply}
-use Rattle.node_steps.specs.Replicas.{Asker, replies, TakesIn, ArriveAt, IsReplyTo}
+use Rattle.node_steps.specs.Replicas.{Asker, replies, IsReplyTo}
 use Rattle.node_steps.specs.Requests.{refusal_of, BeginsOrRefuses}
 
 -- a body that comes to a node, its own ones too
 pub record Incoming : Type 0 where
   pub from : ℕ
+  pub born : ℕ
   pub request : ReqId
   pub body : Body
 
@@ -32,8 +36,9 @@ pub data Act : Type 0 where
   -- another node is marked alive, or else dead
   Marks : (peer : ℕ) (up : Bool) → Act
 
+-- a request's id: its node, and the time to which the step rose in which it began
 abbrev pub request_at : ℕ → ℕ → ReqId
-request_at me time = record { node = me; time = time }
+request_at me risen = record { node = me; time = risen }
 
 abbrev pub AtWrite : (OpenWrite → Move → OpenWrite → Type 0) → ReqId → NodeState → Effects → NodeState → Type 0
 AtWrite Step id s o s' = (turn : Move) × AtRequest Step id s.writes turn s'.writes × (o ≡ effects_of turn) × (s' ≡ record s { writes = s'.writes })
@@ -41,20 +46,35 @@ AtWrite Step id s o s' = (turn : Move) × AtRequest Step id s.writes turn s'.wri
 abbrev pub AtRead : (OpenRead → Move → OpenRead → Type 0) → ReqId → NodeState → Effects → NodeState → Type 0
 AtRead Step id s o s' = (turn : Move) × AtRequest Step id s.reads turn s'.reads × (o ≡ effects_of turn) × (s' ≡ record s { reads = s'.reads })
 
+-- changes of a partition are taken in, at the time to which the step rose, and this is replied
+abbrev pub TakesChanges : Asker → Partition → List Held → Body → NodeState → Effects → NodeState → Type 0
+TakesChanges a p changes reply s o s' =
+    TakesIn (changes_of s.content) p changes (changes_of s'.content) × ArriveAt s.risen s.content s'.content
+    × (o ≡ replies a reply) × (s' ≡ record s { content = s'.content })
+
 -- by what came
 abbrev pub HearsBody : Setting → Asker → Body → NodeState → Effects → NodeState → Type 0
-HearsBody c a (Write m) s o s' =
-    TakesIn (changes_of s.content) m.partition m.changes (changes_of s'.content) × ArriveAt s.time s.content s'.content
-    × (o ≡ replies a WriteAck) × (s' ≡ record s { content = s'.content })
+HearsBody c a (Write m) s o s' = TakesChanges a m.partition m.changes WriteAck s o s'
 HearsBody c a WriteAck s o s' = AtWrite (HearsAck c a.request a.from) a.request s o s'
 HearsBody c a (Read q) s o s' = (part : List Held) × IsReplyTo (changes_of s.content) q part × (o ≡ replies a (ReadReply part)) × (s' ≡ s)
 HearsBody c a (ReadReply content) s o s' = AtRead (HearsReply c a.request a.from content) a.request s o s'
 
+-- a time that passes the ceiling raises it a second above itself
+abbrev pub ceiling_after : ℕ → ℕ → ℕ
+ceiling_after ceiling time = if nat_lt ceiling time then time + 1000000 else ceiling
+
+-- what was born so long ago is not heard
+abbrev pub is_old : Setting → ℕ → ℕ → Bool
+is_old c time born = nat_lt (born + c.expiry) time
+
+abbrev pub asker_of : Incoming → Asker
+asker_of m = record { from = m.from; request = m.request }
+
 -- From s node me may make this move, and give these effects
 abbrev pub Does : Setting → ℕ → NodeState → Act → Effects → NodeState → Type 0
-Does c me s (Rises time) o s' = (s.time < time) × (o ≡ nothing) × (s' ≡ record s { time = time })
-Does c me s (Hears m) o s' = HearsBody c (record { from = m.from; request = m.request }) m.body s o s'
-Does c me s (Asks ask) o s' = BeginsOrRefuses c (request_at me s.time) ask.plan ask.level (refusal_of c s.down ask.plan ask.level) s o s'
+Does c me s (Rises time) o s' = (s.time < time) × (o ≡ nothing) × (s' ≡ record s { time = time; risen = time; ceiling = ceiling_after s.ceiling time })
+Does c me s (Hears m) o s' = MatchBool (is_old c s.risen m.born) ((o ≡ nothing) × (s' ≡ s)) (HearsBody c (asker_of m) m.body s o s')
+Does c me s (Asks ask) o s' = BeginsOrRefuses c (request_at me s.risen) ask.plan ask.level (refusal_of c s (request_at me s.risen) ask.plan ask.level) s o s'
 Does c me s (Marks peer up) o s' = (o ≡ nothing) × (s' ≡ record s { down = marked s.down peer up })
 
 -- a move that was made, with all that can be known of it
@@ -69,7 +89,7 @@ pub record Deed : Type 0 where
 abbrev pub own_sends : ℕ → List Outbound → List Act
 own_sends me [] = []
 own_sends me (x ∷ xs) =
-    if x.upto == me then Hears (record { from = me; request = x.request; body = x.body }) ∷ own_sends me xs else own_sends me xs
+    if x.upto == me then Hears (record { from = me; born = x.born; request = x.request; body = x.body }) ∷ own_sends me xs else own_sends me xs
 
 -- From s, with these matters to take, node me has made these deeds, is at s', and has yet to hear `pending` of its own and
 -- to take the matters `left`: each matter is followed by what comes of it at the node itself

@@ -1,8 +1,14 @@
 pub mod State
 pub mod Effects
+pub mod Fitting
 pub mod Writes
 pub mod Reads
 pub mod Requests
 pub mod Replicas
+pub mod Answering
 pub mod Acts
 pub mod Steps
+pub mod Keeping
+pub mod Stops
+pub mod Leading
+pub mod Laws

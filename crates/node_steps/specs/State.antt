@@ -1,49 +1,72 @@
--- A node, plainly: the changes that it holds, its time, the nodes that it takes for dead, and the requests of clients that
--- it has not answered.
-use Rattle.std.specs.Prelude.{ℕ, List, [], Contains, map}
+-- A node, plainly: what it keeps through stops; and what it forgets at a stop: its time, the nodes that it takes for dead, and
+-- the open requests of clients.
+use Rattle.std.specs.Prelude.{ℕ, Bool, List, []}
 use Rattle.cs_base.specs.declared.level.Level.{Level}
 use Rattle.cs_base.specs.declared.ids.ReqId.{ReqId}
 use Rattle.changes.specs.declared.Partition.{Partition}
 use Rattle.changes.specs.declared.Held.{Held}
-use Rattle.changes.specs.declared.Change.{Change}
 use Rattle.changes.specs.declared.Query.{Query}
+use Rattle.row_change.specs.declared.entry.Hint.{Hint}
+use Rattle.row_change.specs.declared.entry.Mark.{Mark}
+use Rattle.durable_state.specs.declared.parts.LastNumber.{LastNumber}
+use Rattle.durable_state.specs.declared.parts.RowAt.{RowAt}
+use Rattle.durable_state.specs.State.{Stored, Durable, formatted}
 
--- a write that its coordinator has not answered, with the replicas that acknowledged it
+-- a write that its coordinator began, with the replicas that acknowledged it. It is open on behind its answer, until each
+-- replica has acknowledged it or its deadline comes
 pub record OpenWrite : Type 0 where
   pub level : Level
   pub partition : Partition
   pub heard : List ℕ
+  pub answered : Bool
 
--- a read that its coordinator has not answered, with the replicas that replied and the merge of their replies
+-- what a replica replied to a read
+pub record Replied : Type 0 where
+  pub from : ℕ
+  pub content : List Held
+
+-- a read that its coordinator has not answered, with the replies of replicas in the order in which they came, and their merge
 pub record OpenRead : Type 0 where
   pub level : Level
   pub query : Query
-  pub heard : List ℕ
+  pub replies : List Replied
   pub merged : List Held
 
--- a change that a node holds, with the node time at which it last came to be there
-pub record Stored : Type 0 where
-  pub partition : Partition
-  pub held : Held
-  pub arrival : ℕ
-
-abbrev pub change_of : Stored → Change
-change_of x = record { partition = x.partition; held = x.held }
-
-abbrev pub changes_of : List Stored → List Change
-changes_of content = map change_of content
-
--- open requests stand by id
+-- Open requests stand by id. Of the step that the node is in, risen is the time to which it rose: what a rule says of node time
+-- goes by it. What a node sends carries its time
 pub record NodeState : Type 0 where
-  pub time : ℕ
+  -- kept
+  pub ceiling : ℕ
   pub content : List Stored
+  pub rows : List RowAt
+  pub hints : List Hint
+  pub numbers : List LastNumber
+  pub marks : List Mark
+  -- forgotten at a stop
+  pub time : ℕ
+  pub risen : ℕ
   pub down : List ℕ
   pub writes : List (ReqId × OpenWrite)
   pub reads : List (ReqId × OpenRead)
 
-abbrev pub fresh_node : NodeState
-fresh_node = record { time = 0; content = []; down = []; writes = []; reads = [] }
+abbrev pub durable_of : NodeState → Durable
+durable_of s = record { ceiling = s.ceiling; content = s.content; rows = s.rows; hints = s.hints; numbers = s.numbers; marks = s.marks }
 
--- the change is held in the partition
-abbrev pub Holds : List Change → Partition → Held → Type 0
-Holds content p x = Contains content (record { partition = p; held = x })
+-- what a load makes of what was kept: node time is the ceiling, all others are taken for alive, and no request is open
+abbrev pub loaded : Durable → NodeState
+loaded d = record {
+  ceiling = d.ceiling;
+  content = d.content;
+  rows = d.rows;
+  hints = d.hints;
+  numbers = d.numbers;
+  marks = d.marks;
+  time = d.ceiling;
+  risen = d.ceiling;
+  down = [];
+  writes = [];
+  reads = [];
+}
+
+abbrev pub fresh_node : NodeState
+fresh_node = loaded formatted

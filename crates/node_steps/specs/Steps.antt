@@ -1,19 +1,18 @@
 -- One step of one node: its time rises, then the event's own matter is taken with all that comes of it at the node itself.
-use Rattle.std.specs.Prelude.{◌≡◌, ℕ, ◌+◌, ◌-◌, ◌^◌, ◌==◌, ◌&&◌, not, nat_lt, min, max, if◌then◌else◌, Bool, true, Option, Some, None, List, [], ◌∷◌, map, filter, flat_map, length}
+-- A message from too far ahead counts for nothing, and its time is not taken.
+use Rattle.std.specs.Prelude.{◌≡◌, ℕ, ◌+◌, ◌-◌, ◌^◌, ◌==◌, ◌||◌, not, nat_lt, min, max, if◌then◌else◌, Bool, false, Option, Some, None, List, [], ◌∷◌, map, filter, flat_map}
 use Rattle.cs_base.specs.declared.ids.ReqId.{ReqId}
-use Rattle.changes.specs.declared.Partition.{Partition}
-use Rattle.peer_messages.specs.declared.message.Body.{Body}
-use Rattle.peer_messages.specs.declared.message.Body.TheVariants as body
 use Rattle.peer_messages.specs.declared.message.Message.{Message}
 use Rattle.peer_messages.specs.declared.event.Event.{Event}
 use Rattle.peer_messages.specs.declared.event.What.{What}
-use Rattle.peer_messages.specs.declared.event.What.TheVariants.{Client, Deliver, Alive, Tick}
+use Rattle.peer_messages.specs.declared.event.What.TheVariants.{Client, Deliver, Alive, Flush, Tick}
 use Rattle.peer_messages.specs.declared.chronicle.Entry.{Entry}
 use Rattle.peer_messages.specs.declared.outcome.Outbound.{Outbound}
 use Rattle.peer_messages.specs.declared.outcome.Outputs.{Outputs}
 use Rattle.peer_messages.specs.declared.setting.Setting.{Setting}
 use Rattle.node_steps.specs.State.{NodeState}
-use Rattle.node_steps.specs.Acts.{Act, Rises, Hears, Asks, Marks, Deed, Chain, request_at}
+use Rattle.node_steps.specs.Fitting.{message_fits, mark_fits}
+use Rattle.node_steps.specs.Acts.{Act, Rises, Hears, Asks, Marks, Deed, Chain, request_at, is_old}
 
 -- a clock's reading above 2 ^ 62 counts as that
 abbrev pub reading : Event → ℕ
@@ -23,11 +22,24 @@ abbrev pub message_time : What → ℕ
 message_time (Client ask) = 0
 message_time (Deliver m) = m.time + 1
 message_time (Alive peer up) = 0
+message_time Flush = 0
 message_time Tick = 0
+
+-- a message's time is more than a minute above both the node's time and its clock
+abbrev pub is_ahead : ℕ → Event → What → Bool
+is_ahead time e (Deliver m) = nat_lt (max time (reading e) + 60000000) m.time
+is_ahead time e (Client ask) = false
+is_ahead time e (Alive peer up) = false
+is_ahead time e Flush = false
+is_ahead time e Tick = false
+
+-- what of the event the node looks at
+abbrev pub looked_at : ℕ → Event → What
+looked_at time e = if is_ahead time e e.what then Tick else e.what
 
 -- the node's time plus 1, the message's plus 1, or the clock's reading, whichever is the latest
 abbrev pub risen_time : ℕ → Event → ℕ
-risen_time time e = max (time + 1) (max (message_time e.what) (reading e))
+risen_time time e = max (time + 1) (max (message_time (looked_at time e)) (reading e))
 
 abbrev pub time_after : NodeState → Event → ℕ
 time_after s e = risen_time s.time e
@@ -36,38 +48,23 @@ time_after s e = risen_time s.time e
 abbrev pub end_of_time : ℕ
 end_of_time = 2 ^ 63 - 2 ^ 21
 
-abbrev pub is_table : Setting → Partition → Bool
-is_table c p = nat_lt p.table (length c.tables)
-
-abbrev pub body_fits : Setting → Body → Bool
-body_fits c (body.Write m) = is_table c m.partition
-body_fits c body.WriteAck = true
-body_fits c (body.Read q) = is_table c q.partition
-body_fits c (body.ReadReply content) = true
-
--- a message fits that goes to this node from another one of the ring, and names a table that is there
-abbrev pub message_fits : Setting → ℕ → Message → Bool
-message_fits c me m = (m.upto == me) && (not (m.from == me) && (nat_lt m.from (length c.ring) && body_fits c m.body))
-
 abbrev pub heard_matter : Setting → ℕ → Message → List Act
-heard_matter c me m = if message_fits c me m then Hears (record { from = m.from; request = m.request; body = m.body }) ∷ [] else []
+heard_matter c me m = if message_fits c me m then Hears (record { from = m.from; born = m.born; request = m.request; body = m.body }) ∷ [] else []
 
--- a mark fits that is of another node of the ring
-abbrev pub mark_fits : Setting → ℕ → ℕ → Bool
-mark_fits c me peer = not (peer == me) && nat_lt peer (length c.ring)
-
--- the event's own matter
+-- the event's own matter; what does not fit has none
 abbrev pub matter_of : Setting → ℕ → What → List Act
 matter_of c me (Client ask) = Asks ask ∷ []
 matter_of c me (Deliver m) = heard_matter c me m
 matter_of c me (Alive peer up) = if mark_fits c me peer then Marks peer up ∷ [] else []
+matter_of c me Flush = []
 matter_of c me Tick = []
 
 abbrev pub started_by : ℕ → ℕ → What → Option ReqId
-started_by me time (Client ask) = Some (request_at me time)
-started_by me time (Deliver m) = None
-started_by me time (Alive peer up) = None
-started_by me time Tick = None
+started_by me risen (Client ask) = Some (request_at me risen)
+started_by me risen (Deliver m) = None
+started_by me risen (Alive peer up) = None
+started_by me risen Flush = None
+started_by me risen Tick = None
 
 abbrev pub message_of : ℕ → ℕ → Outbound → Message
 message_of me time x = record { from = me; upto = x.upto; time = time; born = x.born; request = x.request; body = x.body }
@@ -82,15 +79,35 @@ sends_of d = d.effects.sends
 abbrev pub entries_of : Deed → List Entry
 entries_of d = d.effects.entries
 
-abbrev pub outputs_of : ℕ → ℕ → What → List Deed → Outputs
-outputs_of me time what deeds = record {
+-- a flush tells how many tables there are, which is nothing of the plain node
+abbrev pub TellsTables : What → Option ℕ → Type 0
+TellsTables Flush tables = (n : ℕ) × (tables ≡ Some n)
+TellsTables (Client ask) tables = tables ≡ None
+TellsTables (Deliver m) tables = tables ≡ None
+TellsTables (Alive peer up) tables = tables ≡ None
+TellsTables Tick tables = tables ≡ None
+
+-- a message is refused that is from too far ahead, or was born too long ago
+abbrev pub is_refused : Setting → ℕ → ℕ → Event → What → Bool
+is_refused c time risen e (Deliver m) = is_ahead time e (Deliver m) || is_old c risen m.born
+is_refused c time risen e (Client ask) = false
+is_refused c time risen e (Alive peer up) = false
+is_refused c time risen e Flush = false
+is_refused c time risen e Tick = false
+
+-- a request has the time to which the step rose; messages carry the time at its end
+abbrev pub outputs_of : ℕ → ℕ → ℕ → What → List Deed → Option ℕ → Bool → Outputs
+outputs_of me risen time what deeds tables refused = record {
   time = time;
-  started = started_by me time what;
+  started = started_by me risen what;
   sends = messages_of me time (flat_map sends_of deeds);
   entries = flat_map entries_of deeds;
+  tables = tables;
+  refused = refused;
 }
 
 -- From s node me may take the event, give these outputs and go on to s', by these deeds
 pub record NodeStep (c : Setting) (me : ℕ) (s : NodeState) (e : Event) (deeds : List Deed) (o : Outputs) (s' : NodeState) : Type 0 where
-  pub moves : Chain c me s (Rises (time_after s e) ∷ matter_of c me e.what) deeds s' [] []
-  pub outputs : o ≡ outputs_of me (time_after s e) e.what deeds
+  pub moves : Chain c me s (Rises (time_after s e) ∷ matter_of c me (looked_at s.time e)) deeds s' [] []
+  pub tables : TellsTables e.what o.tables
+  pub outputs : o ≡ outputs_of me (time_after s e) s'.time e.what deeds o.tables (is_refused c s.time (time_after s e) e e.what)

@@ -2,7 +2,6 @@
 use Rattle.std.proofs.Common.{◌≡◌, ℕ, ◌⊎◌, inl, inr, Bool, true, false, cond, List, [], ◌∷◌, ◌++◌, Option, Some, None, Contains, sym, ◌∙◌, ap, subst}
 use Rattle.std.specs.Option.{option_to_list}
 use Rattle.std.specs.Map.{lookup, set_value}
-use Rattle.std.specs.Map.Calls.{RetainsPairs}
 use Rattle.std.proofs.lemmas.List.Elements.{Contains-append_cases, Contains-append_left, Contains-append_right}
 use Rattle.changes.specs.declared.Held.{Held}
 use Rattle.changes.specs.Contents.{Either, IsContent, IsReachedBy}
@@ -55,27 +54,6 @@ found_stored false e es o a later is = Contains-append_right (option_to_list e.1
 pub stored_found : (t : Spot → Bool) (es : List (Spot × Option Arrived)) (a : Arrived) → stored_in (lookup t es) ≡ Some a → Contains (stored_of es) a
 stored_found t [] a is = cc
 stored_found t (e ∷ es) a is = found_stored (t e.0) e es (lookup t es) a (λ k. stored_found t es a k) is
-
--- ---- clearing
-
-left_at : (old new : Option Arrived) (xs ys : List Arrived) (a : Arrived) → (new ≡ old) ⊎ (new ≡ None) → (Contains ys a → Contains xs a) → Contains (option_to_list new ++ ys) a → Contains (option_to_list old ++ xs) a
-left_at old new xs ys a left later h =
-    elim (Contains-append_cases (option_to_list new) ys a h) [
-      | inl here ↦ elim left [
-        | inl same ↦ Contains-append_left (option_to_list old) xs a (subst (λ (o : Option Arrived). Contains (option_to_list o) a) same here)
-        | inr none ↦ absurd (contains_nil a (subst (λ (o : Option Arrived). Contains (option_to_list o) a) none here))
-      ]
-      | inr rest ↦ Contains-append_right (option_to_list old) xs a (later rest)
-    ]
-
-pub left_by : {F : Type 0} (T : F → Spot → Option Arrived → Bool → Option Arrived → F → Type 0) (f : F) → ((k : Spot) (v : Option Arrived) (b : Bool) (w : Option Arrived) (f' : F) → T f k v b w f' → (b ≡ true) × ((w ≡ v) ⊎ (w ≡ None)) × (f' ≡ f)) → (es fs : List (Spot × Option Arrived)) → RetainsPairs T f es fs → AreLeft es fs
-left_by T f step [] fs h a k = subst (λ (l : List (Spot × Option Arrived)). Contains (stored_of l) a) h k
-left_by {F} T f step (e ∷ es) fs (b, w, g, rest, call, more, split) a k =
-    let s = step e.0 e.1 b w g call in
-    let is : fs ≡ (e.0, w) ∷ rest = split ∙ ap (λ (c : Bool). cond c ((e.0, w) ∷ rest) rest) s.0 in
-    left_at e.1 w (stored_of es) (stored_of rest) a s.1
-    (λ later. left_by T f step es rest (subst (λ (v : F). RetainsPairs T v es rest) s.2 more) a later)
-    (subst (λ (l : List (Spot × Option Arrived)). Contains (stored_of l) a) is k)
 
 -- ---- a change that comes
 

@@ -5,7 +5,6 @@ use Rattle.std.specs.List.{sum_by}
 use Rattle.std.specs.List.Sorted.{IsStrictlySortedBy}
 use Rattle.std.specs.Option.{option_to_list}
 use Rattle.std.proofs.lemmas.List.Sums.{sum_by-cons}
-use Rattle.partition_content.proofs.SlotLemmas.{sum_changes}
 use Rattle.std.specs.Map.{keys_of, lookup, set_value}
 use Rattle.std.specs.Ordering.{is_eq}
 use Rattle.std.specs.declared.cmp.Ordering.{Ordering}
@@ -24,7 +23,8 @@ use Rattle.partition_content.specs.declared.spots.Spot.TheVariants.{At}
 use Rattle.partition_content.specs.Spots.{spot_cmp}
 use Rattle.partition_content.specs.SpotLaws.{spot_total}
 use Rattle.cell_merge.specs.Parts.{IsInnermost}
-use Rattle.partition_content.specs.Slots.{changes_of, AreFiled, IsCleared, AreCleared, IsLostWith, AreLost, OutranksOnlyAt}
+use Rattle.partition_content.specs.Slots.{changes_of, AreFiled, IsCleared, AreCleared, OutranksOnlyAt, IsCountedWith, IsLengthOf}
+use Rattle.partition_content.proofs.SlotLemmas.{IsLostWith, AreLost, sum_changes}
 use Rattle.partition_content.proofs.SpotLemmas.{key_exact}
 use Rattle.partition_content.proofs.OrderLemmas.{key_at}
 use Rattle.partition_content.proofs.ReachLemmas.{innermost_alone}
@@ -145,30 +145,30 @@ slot_most t (e ∷ es) v found =
 
 -- ---- all keys, one after another
 
--- what the walk has counted, and what the rest loses, is lost of all
-abbrev pub LostSoFar : Held → List (Spot × Option Held) → List (Spot × Option Held) → ℕ → Type 0
-LostSoFar x all rest lost = (r n : ℕ) → AreLost x rest r → n ≡ lost + r → AreLost x all n
+-- what the walk has counted, and what the rest counts, is counted of all
+abbrev pub LostSoFar : (Held → Type 0) → List (Spot × Option Held) → List (Spot × Option Held) → ℕ → Type 0
+LostSoFar P all rest lost = (r n : ℕ) → IsLengthOf P rest r → n ≡ lost + r → IsLengthOf P all n
 
-pub lost_start : (x : Held) (all it : List (Spot × Option Held)) → it ≡ all → LostSoFar x all it 0
-lost_start x all it e r n h is = subst (AreLost x all) (sym (let z : n ≡ r = omega (arith, is) in z)) (subst (λ (l : List (Spot × Option Held)). AreLost x l r) e h)
+pub lost_start : (P : Held → Type 0) (all it : List (Spot × Option Held)) → it ≡ all → LostSoFar P all it 0
+lost_start P all it e r n h is = subst (IsLengthOf P all) (sym (let z : n ≡ r = omega (arith, is) in z)) (subst (λ (l : List (Spot × Option Held)). IsLengthOf P l r) e h)
 
-lost_next : (x : Held) (o : Option Held) (a b r : ℕ) → IsLostWith x o a b → (s : ℕ) × IsLostWith x o r s × (a + s ≡ b + r)
-lost_next x None a b r e = (r, refl, omega (arith, e))
-lost_next x (Some y) a b r (inl (over, e)) = (held_length y + r, inl (over, refl), omega (arith, e))
-lost_next x (Some y) a b r (inr (free, e)) = (r, inr (free, refl), omega (arith, e))
+lost_next : (P : Held → Type 0) (o : Option Held) (a b r : ℕ) → IsCountedWith P o a b → (s : ℕ) × IsCountedWith P o r s × (a + s ≡ b + r)
+lost_next P None a b r e = (r, refl, omega (arith, e))
+lost_next P (Some y) a b r (inl (over, e)) = (held_length y + r, inl (over, refl), omega (arith, e))
+lost_next P (Some y) a b r (inr (free, e)) = (r, inr (free, refl), omega (arith, e))
 
-pub lost_step : (x : Held) (all it rest : List (Spot × Option Held)) (k : Spot) (v : Option Held) (a b : ℕ) → it ≡ (k, v) ∷ rest → LostSoFar x all it a → IsLostWith x v a b → LostSoFar x all rest b
-lost_step x all it rest k v a b split so_far one r n h is =
-    let f = lost_next x v a b r one in
-    so_far f.0 n (subst (λ (l : List (Spot × Option Held)). AreLost x l f.0) (sym split) (r, h, f.1)) (let e = f.2 in omega (arith, e, is))
+pub lost_step : (P : Held → Type 0) (all it rest : List (Spot × Option Held)) (k : Spot) (v : Option Held) (a b : ℕ) → it ≡ (k, v) ∷ rest → LostSoFar P all it a → IsCountedWith P v a b → LostSoFar P all rest b
+lost_step P all it rest k v a b split so_far one r n h is =
+    let f = lost_next P v a b r one in
+    so_far f.0 n (subst (λ (l : List (Spot × Option Held)). IsLengthOf P l f.0) (sym split) (r, h, f.1)) (let e = f.2 in omega (arith, e, is))
 
-pub lost_done : (x : Held) (all it : List (Spot × Option Held)) (lost : ℕ) → it ≡ [] → LostSoFar x all it lost → AreLost x all lost
-lost_done x all it lost none so_far = so_far 0 lost (subst (λ (l : List (Spot × Option Held)). AreLost x l 0) (sym none) refl) (omega arith)
+pub lost_done : (P : Held → Type 0) (all it : List (Spot × Option Held)) (lost : ℕ) → it ≡ [] → LostSoFar P all it lost → IsLengthOf P all lost
+lost_done P all it lost none so_far = so_far 0 lost (subst (λ (l : List (Spot × Option Held)). IsLengthOf P l 0) (sym none) refl) (omega arith)
 
 pub sum_front : (it rest : List (Spot × Option Held)) (k : Spot) (v : Option Held) → it ≡ (k, v) ∷ rest → sum_by held_length (changes_of it) ≡ sum_by held_length (option_to_list v) + sum_by held_length (changes_of rest)
 sum_front it rest k v e = ap (λ (l : List (Spot × Option Held)). sum_by held_length (changes_of l)) e ∙ sum_changes (k, v) rest
 
-pub lost_one : (x : Held) (o : Option Held) (m n : ℕ) → IsLostWith x o m n → n ≤ sum_by held_length (option_to_list o) + m
-lost_one x None m n e = omega (arith, e)
-lost_one x (Some y) m n (inl (over, e)) = let f = sum_by-cons held_length y [] in omega (arith, e, f)
-lost_one x (Some y) m n (inr (free, e)) = omega (arith, e)
+pub lost_one : (P : Held → Type 0) (o : Option Held) (m n : ℕ) → IsCountedWith P o m n → n ≤ sum_by held_length (option_to_list o) + m
+lost_one P None m n e = omega (arith, e)
+lost_one P (Some y) m n (inl (over, e)) = let f = sum_by-cons held_length y [] in omega (arith, e, f)
+lost_one P (Some y) m n (inr (free, e)) = omega (arith, e)

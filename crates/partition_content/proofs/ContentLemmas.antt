@@ -19,10 +19,10 @@ use Rattle.change_laws.proofs.Outranking.{Outranks_irrefl}
 use Rattle.partition_content.specs.declared.spots.Spot.{Spot}
 use Rattle.partition_content.specs.declared.spots.Spot.TheVariants.{At}
 use Rattle.partition_content.specs.Spots.{spot_cmp}
-use Rattle.partition_content.specs.Slots.{SlotMap, changes_of, change_in, AreFiled, HasSlot, AreCleared, IsLostWith, AreLost, IsReachedAt, IsGood, slot_at, spots_in}
+use Rattle.partition_content.specs.Slots.{SlotMap, changes_of, change_in, AreFiled, HasSlot, AreCleared, IsCountedWith, IsLengthOf, IsReachedAt, IsGood, slot_at, spots_in}
 use Rattle.std.proofs.lemmas.Bool.{both_ways}
 use Rattle.partition_content.proofs.SpotLemmas.{spot_found, place_kept}
-use Rattle.partition_content.proofs.SlotLemmas.{from_changes, to_changes, cleared_keys, cleared_from, cleared_to, lost_length, sum_changes}
+use Rattle.partition_content.proofs.SlotLemmas.{AreLost, from_changes, to_changes, cleared_keys, cleared_from, cleared_to, lost_length, sum_changes}
 use Rattle.partition_content.proofs.PutLemmas.{set_from, set_old, set_new, set_length, slot_found}
 use Rattle.partition_content.proofs.ReachLemmas.{own_reaches}
 use Rattle.std.proofs.lemmas.Map.{keys-set_value}
@@ -149,18 +149,18 @@ put_is_good old middle new x p = record {
 pub put_sum : (old middle new : SlotMap) (x : Held) (n : ℕ) → IsPut old middle new x → AreLost x old.entries n → sum_by held_length (changes_of new.entries) + n ≡ sum_by held_length (changes_of old.entries) + held_length x
 put_sum old middle new x n p lost = put_length old.entries middle.entries new.entries x n p.good.filed p.free p.slot p.cleared lost p.entries
 
-lost_one : (x : Held) (o : Option Held) (m n : ℕ) → IsLostWith x o m n → n ≤ sum_by held_length (option_to_list o) + m
-lost_one x None m n e = omega (arith, e)
-lost_one x (Some y) m n (inl (over, e)) = let f = sum_by-cons held_length y [] in omega (arith, e, f)
-lost_one x (Some y) m n (inr (free, e)) = omega (arith, e)
+lost_one : (P : Held → Type 0) (o : Option Held) (m n : ℕ) → IsCountedWith P o m n → n ≤ sum_by held_length (option_to_list o) + m
+lost_one P None m n e = omega (arith, e)
+lost_one P (Some y) m n (inl (over, e)) = let f = sum_by-cons held_length y [] in omega (arith, e, f)
+lost_one P (Some y) m n (inr (free, e)) = omega (arith, e)
 
--- what is lost was there
-pub lost_most : (x : Held) (es : List (Spot × Option Held)) (n : ℕ) → AreLost x es n → n ≤ sum_by held_length (changes_of es)
-lost_most x [] n lost = omega (arith, lost)
-lost_most x (e ∷ es) n (m, fewer, one) =
-    let ih = lost_most x es m fewer in
+-- what is counted was there
+pub lost_most : (P : Held → Type 0) (es : List (Spot × Option Held)) (n : ℕ) → IsLengthOf P es n → n ≤ sum_by held_length (changes_of es)
+lost_most P [] n lost = omega (arith, lost)
+lost_most P (e ∷ es) n (m, fewer, one) =
+    let ih = lost_most P es m fewer in
     let split = sum_changes e es in
-    let here = lost_one x e.1 m n one in omega (arith, ih, split, here)
+    let here = lost_one P e.1 m n one in omega (arith, ih, split, here)
 
 -- ---- taken in
 

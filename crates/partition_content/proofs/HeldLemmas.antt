@@ -1,5 +1,5 @@
 -- The tree without its arrivals, as each step of the tree leaves it.
-use Rattle.std.proofs.Common.{◌≡◌, ◌++◌, Bool, true, false, cond, List, [], ◌∷◌, Option, Some, None, IsSome, filter, map, refl, sym, ◌∙◌, ap, subst}
+use Rattle.std.proofs.Common.{◌≡◌, ◌≤◌, ◌++◌, length, length-append, arith, Bool, true, false, cond, List, [], ◌∷◌, Option, Some, None, IsSome, filter, map, refl, sym, ◌∙◌, ap, subst}
 use Rattle.std.specs.Option.{option_to_list}
 use Rattle.std.specs.BTreeMap.{insert_entry}
 use Rattle.std.specs.Map.{keys_of, lookup, set_value, remove_entry}
@@ -96,3 +96,17 @@ filter_at false e more left h = h
 pub helds-filter : (p : Spot → Bool) (es : List (Spot × Option Arrived)) → helds_in (filter (λ e. p e.0) es) ≡ filter (λ e. p e.0) (helds_in es)
 helds-filter p [] = refl
 helds-filter p (e ∷ es) = filter_at (p e.0) e (filter (λ d. p d.0) es) (filter (λ d. p d.0) (helds_in es)) (helds-filter p es)
+
+-- ---- how many there are
+
+one_most : (o : Option Arrived) → length (option_to_list o) ≤ 1
+one_most None = omega arith
+one_most (Some x) = omega arith
+
+-- no more are stored than there are keys
+pub stored_most : (es : List (Spot × Option Arrived)) → length (stored_of es) ≤ length es
+stored_most [] = omega arith
+stored_most (e ∷ es) =
+    let one = one_most e.1 in
+    let rest = stored_most es in
+    let sum = length-append (option_to_list e.1) (stored_of es) in omega (arith, one, rest, sum)

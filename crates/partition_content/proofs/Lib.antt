@@ -11,5 +11,8 @@ mod ClearLemmas
 mod OwnLemmas
 mod MemoryLemmas
 mod ReadLemmas
+mod SliceLemmas
 mod ToldLemmas
 mod PartLemmas
+mod LossLemmas
+mod SweepLemmas

@@ -16,6 +16,7 @@ use Rattle.partition_content.specs.declared.spots.Spot.{Spot}
 use Rattle.partition_content.specs.declared.spots.Spot.TheVariants.{At}
 use Rattle.partition_content.specs.declared.keys.Keys.{Keys}
 use Rattle.partition_content.specs.Keys.{keys_for}
+use Rattle.partition_content.specs.Inside.{AreNoted}
 use Rattle.partition_content.specs.Slots.{SlotMap, changes_of, HasSlot, spots_in}
 use Rattle.partition_content.specs.declared.memory.Ready.{Ready}
 use Rattle.cell_merge.specs.Parts.{IsInnermost}
@@ -106,14 +107,15 @@ pub taken_slots : (slots : SlotMap) (xs : List Held) (p : Place) → AreSlotsFor
 taken_slots slots xs p there h =
     let f = contains_from_map place_of xs p h in subst (HasSlot slots) f.2 (there f.0 f.1)
 
-pub are_taken : (slots : SlotMap) (ready : Ready) (xs : List Held) → ready.keys.items ≡ map (keys_for ready.bare) (map place_of xs) → AreSlotsFor slots xs → (ready.bare ≡ true → AreBare (changes_of slots.entries)) → (ready.bare ≡ true → AreBare xs) → AreTaken slots (Some ready)
-are_taken slots ready xs e there bare narrow =
+pub are_taken : (slots : SlotMap) (ready : Ready) (xs : List Held) → ready.keys.items ≡ map (keys_for ready.bare) (map place_of xs) → AreSlotsFor slots xs → (ready.bare ≡ true → AreBare (changes_of slots.entries)) → (ready.bare ≡ true → AreBare xs) → AreNoted (spots_in slots) (map place_of xs) ready.inside.items → AreTaken slots (Some ready)
+are_taken slots ready xs e there bare narrow inside =
     let same = taken_places ready.bare ready.keys.items xs e in
     record {
       keys = e ∙ ap (map (keys_for ready.bare)) (sym same);
       there = λ p h. taken_slots slots xs p there (subst (λ (l : List Place). Contains l p) same h);
       bare = bare;
       narrow = λ t p h. (let f = contains_from_map place_of xs p (subst (λ (l : List Place). Contains l p) same h) in subst IsInnermost f.2 (narrow t f.0 f.1));
+      inside = subst (λ (l : List Place). AreNoted (spots_in slots) l ready.inside.items) (sym same) inside;
     }
 
 pub none_taken : (slots : SlotMap) (ready : Option Ready) → places_in ready ≡ None → AreTaken slots ready
@@ -128,6 +130,10 @@ pub ready_slots : (slots : SlotMap) (ready : Ready) (xs : List Held) → IsReady
 ready_slots slots ready xs taken e x h =
     let same : map place_of_keys ready.keys.items ≡ map place_of xs = cc in
     taken.there x.place (subst (λ (l : List Place). Contains l x.place) (sym same) (contains_map place_of xs x h))
+
+pub ready_inside : (slots : SlotMap) (ready : Ready) (xs : List Held) → IsReady slots ready → places_in (Some ready) ≡ Some (map place_of xs) → AreNoted (spots_in slots) (map place_of xs) ready.inside.items
+ready_inside slots ready xs taken e =
+    let same : map place_of_keys ready.keys.items ≡ map place_of xs = cc in subst (λ (l : List Place). AreNoted (spots_in slots) l ready.inside.items) same taken.inside
 
 pub ready_narrow : (slots : SlotMap) (ready : Ready) (xs : List Held) → IsReady slots ready → places_in (Some ready) ≡ Some (map place_of xs) → ready.bare ≡ true → AreBare xs
 ready_narrow slots ready xs taken e t x h =

@@ -5,7 +5,6 @@ use Rattle.std.specs.BTreeMap.{is_at, insert_entry}
 use Rattle.std.specs.List.{AllByRecursion}
 use Rattle.std.specs.List.Sorted.{IsStrictlySortedBy}
 use Rattle.std.specs.Map.{keys_of, lookup, remove_entry}
-use Rattle.std.specs.Map.Calls.{RetainsPairs}
 use Rattle.std.specs.Ordering.{match_ordering, is_eq}
 use Rattle.std.specs.declared.cmp.Ordering.{Ordering}
 use Rattle.std.specs.declared.cmp.Ordering.TheVariants.{Less, Equal, Greater}
@@ -14,12 +13,14 @@ use Rattle.std.proofs.lemmas.Map.Keys.{sorted_head, sorted_tail}
 use Rattle.changes.specs.declared.Held.{Held}
 use Rattle.changes.specs.Contents.{AreApart}
 use Rattle.changes.specs.Places.{stored_cmp, AreInOrder}
+use Rattle.changes.proofs.Orderings.{less_back}
 use Rattle.cs_base.proofs.Members.{contains_nil, contains_here, contains_there, contains_cases, contains_map}
 use Rattle.partition_content.specs.declared.spots.Spot.{Spot}
 use Rattle.partition_content.specs.declared.spots.Spot.TheVariants.{At}
 use Rattle.partition_content.specs.Spots.{spot_cmp}
+use Rattle.partition_content.specs.SpotLaws.{spot_total}
 use Rattle.partition_content.specs.declared.Arrived.{Arrived}
-use Rattle.partition_content.specs.Slots.{SlotMap, stored_of, stored_in, held_in, helds_in, changes_of, AreFiled, AreCleared, IsCleared, IsGood, spots_in}
+use Rattle.partition_content.specs.Slots.{SlotMap, stored_of, stored_in, changes_of, AreFiled, IsGood, spots_in}
 use Rattle.partition_content.proofs.SpotLemmas.{key_exact}
 use Rattle.partition_content.proofs.SlotLemmas.{at_place}
 
@@ -29,9 +30,9 @@ sorted_from : (x : Held) (xs : List Held) → AllByRecursion (λ y. stored_cmp x
 unfolding IsStrictlySortedBy
 sorted_from x xs h s = (h, s)
 
-sorted_none : AreInOrder []
+pub none_in_order : AreInOrder []
 unfolding IsStrictlySortedBy
-sorted_none = tt
+none_in_order = tt
 
 all_from : (P : Held → Type 0) (xs : List Held) → ((y : Held) → Contains xs y → P y) → AllByRecursion P xs
 all_from P [] h = tt
@@ -55,7 +56,7 @@ in_order_by s (Some x) es filed above rest =
     rest
 
 pub changes_in_order : (es : List (Spot × Option Held)) → AreFiled es → IsStrictlySortedBy spot_cmp (keys_of es) → AreInOrder (changes_of es)
-changes_in_order [] filed sorted = sorted_none
+changes_in_order [] filed sorted = none_in_order
 changes_in_order (e ∷ es) filed sorted =
     in_order_by e.0 e.1 es filed (sorted_head spot_cmp e.0 (keys_of es) sorted)
     (changes_in_order es (filed_less e es filed) (sorted_tail spot_cmp e.0 (keys_of es) sorted))
@@ -127,6 +128,30 @@ pub none_is : (o : Option (Option Arrived)) (b : Bool) → b ≡ is_some o → b
 none_is None b e f = refl
 none_is (Some v) b e f = cc
 
+-- what is there at a key, put in there again, changes nothing
+same_at : (o : Ordering) (k : Spot) (v : Option Arrived) (e : Spot × Option Arrived) (es more : List (Spot × Option Arrived)) (r : Option (Option Arrived)) → spot_cmp k e.0 ≡ o → cond (is_eq o) (Some e.1) r ≡ Some v → (r ≡ Some v → spot_cmp e.0 k ≡ Less) → (r ≡ Some v → more ≡ es) → match_ordering o ((k, v) ∷ e ∷ es) ((e.0, v) ∷ es) (e ∷ more) ≡ e ∷ es
+same_at Less k v e es more r p h above rest = let back = less_back spot_total e.0 k (above h) in cc
+same_at Equal k v e es more r p h above rest = let is : e.1 ≡ v = cc in ap (λ (w : Option Arrived). (e.0, w) ∷ es) (sym is)
+same_at Greater k v e es more r p h above rest = ap (λ (l : List (Spot × Option Arrived)). e ∷ l) (rest h)
+
+inserted_same : (es : List (Spot × Option Arrived)) (k : Spot) (v : Option Arrived) → IsStrictlySortedBy spot_cmp (keys_of es) → lookup (is_at (spot_cmp k)) es ≡ Some v → insert_entry spot_cmp es k v ≡ es
+inserted_same [] k v sorted h = cc
+inserted_same (e ∷ es) k v sorted h =
+    same_at (spot_cmp k e.0) k v e es (insert_entry spot_cmp es k v) (lookup (is_at (spot_cmp k)) es) refl h
+    (λ r. key_at (λ q. spot_cmp e.0 q ≡ Less) (keys_of es) k (sorted_head spot_cmp e.0 (keys_of es) sorted) (key_there k es (ap is_some r)))
+    (λ r. inserted_same es k v (sorted_tail spot_cmp e.0 (keys_of es) sorted) r)
+
+-- the key was there and nothing changes, or memory is taken at it
+abbrev pub IsMade : Spot → List (Spot × Option Arrived) → List (Spot × Option Arrived) → Type 0
+IsMade k es fs = ((fs ≡ es) × Contains (keys_of es) k) ⊎ ((lookup (is_at (spot_cmp k)) es ≡ None) × (fs ≡ insert_entry spot_cmp es k None))
+
+made_by : (o : Option (Option Arrived)) (es fs : List (Spot × Option Arrived)) (k : Spot) → lookup (is_at (spot_cmp k)) es ≡ o → IsStrictlySortedBy spot_cmp (keys_of es) → fs ≡ insert_entry spot_cmp es k (stored_in o) → IsMade k es fs
+made_by None es fs k e sorted is = inr (e, is)
+made_by (Some v) es fs k e sorted is = inl (is ∙ inserted_same es k v sorted e, key_there k es (ap is_some e))
+
+pub made : (es fs : List (Spot × Option Arrived)) (k : Spot) → IsStrictlySortedBy spot_cmp (keys_of es) → fs ≡ insert_entry spot_cmp es k (stored_in (lookup (is_at (spot_cmp k)) es)) → IsMade k es fs
+made es fs k sorted is = made_by (lookup (is_at (spot_cmp k)) es) es fs k refl sorted is
+
 -- ---- memory given back
 
 nothing_removed_at : (b : Bool) (e : Spot × Option Arrived) (es more : List (Spot × Option Arrived)) (o : Option (Option Arrived)) → stored_in (cond b (Some e.1) o) ≡ None → (stored_in o ≡ None → stored_of more ≡ stored_of es) → stored_of (cond b es (e ∷ more)) ≡ stored_of (e ∷ es)
@@ -173,13 +198,7 @@ pub to_filter : (p : Spot × Option Held → Bool) (es : List (Spot × Option He
 to_filter p [] d h t = h
 to_filter p (e ∷ es) d h t = to_filter_at (p e) e d es (filter p es) (λ same. ap p same ∙ t) (λ k. to_filter p es d k t) h
 
--- ---- clearing, by a closure
-
-pub cleared_by : {F : Type 0} (x : Held) (T : F → Spot → Option Arrived → Bool → Option Arrived → F → Type 0) (f : F) → ((k : Spot) (v : Option Arrived) (b : Bool) (w : Option Arrived) (f' : F) → T f k v b w f' → (b ≡ true) × IsCleared x (held_in v) (held_in w) × (f' ≡ f)) → (es fs : List (Spot × Option Arrived)) → RetainsPairs T f es fs → AreCleared x (helds_in es) (helds_in fs)
-cleared_by x T f step [] fs h = ap helds_in h
-cleared_by {F} x T f step (e ∷ es) fs (b, w, g, rest, call, more, split) =
-    let s = step e.0 e.1 b w g call in
-    (held_in w, helds_in rest, s.1, cleared_by x T f step es rest (subst (λ (v : F). RetainsPairs T v es rest) s.2 more), ap helds_in (split ∙ ap (λ (c : Bool). cond c ((e.0, w) ∷ rest) rest) s.0))
+-- ---- all of it
 
 pub between_whole : (es : List (Spot × Option Arrived)) → filter (λ (e : Spot × Option Arrived). true) es ≡ es
 between_whole [] = refl

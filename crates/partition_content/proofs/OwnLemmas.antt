@@ -16,12 +16,12 @@ use Rattle.partition_content.specs.declared.spots.Spot.{Spot}
 use Rattle.partition_content.specs.declared.spots.Spot.TheVariants.{At}
 use Rattle.partition_content.specs.Spots.{spot_cmp}
 use Rattle.partition_content.specs.declared.Arrived.{Arrived}
-use Rattle.partition_content.specs.Slots.{SlotMap, SlotTree, held_in, helds_in, helds_of, ComesAlone, changes_of, change_in, AreFiled, AreCleared, AreLost, IsReachedAt, IsPutIn, IsPutAt, IsGood, slot_at}
+use Rattle.partition_content.specs.Slots.{SlotMap, SlotTree, held_in, helds_in, helds_of, ComesAlone, changes_of, change_in, AreFiled, AreCleared, IsReachedAt, IsPutIn, IsPutAt, IsGood, slot_at}
 use Rattle.partition_content.specs.Partition.{IsTakenIn}
 use Rattle.partition_content.proofs.SpotLemmas.{place_kept}
 use Rattle.partition_content.proofs.HeldLemmas.{helds-found, helds-set_value}
 use Rattle.partition_content.proofs.ArrivalLemmas.{comes_own}
-use Rattle.partition_content.proofs.SlotLemmas.{to_changes}
+use Rattle.partition_content.proofs.SlotLemmas.{AreLost, to_changes}
 use Rattle.partition_content.proofs.PutLemmas.{found_at}
 use Rattle.partition_content.proofs.ReachLemmas.{own_reaches}
 use Rattle.partition_content.proofs.ClearLemmas.{only_own, cleared_at, lost_at_key}

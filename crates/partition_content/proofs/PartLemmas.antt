@@ -1,5 +1,5 @@
 -- What is kept of the changes that are held, and what of others comes to them, make up the content of both.
-use Rattle.std.proofs.Common.{◌≡◌, ℕ, ◌+◌, ◌≤◌, ◌<◌, ◌⊎◌, inl, inr, List, [], ◌∷◌, ◌++◌, length, take, drop, get_or, Option, Some, None, Contains, refl, sym, ◌∙◌, ap, subst, arith, append-nil, append_assoc}
+use Rattle.std.proofs.Common.{◌≡◌, ℕ, ◌+◌, ◌≤◌, ◌<◌, ◌-◌, ◌⊎◌, inl, inr, List, [], ◌∷◌, ◌++◌, length, take, drop, get_or, Option, Some, None, Contains, refl, sym, ◌∙◌, ap, subst, arith}
 use Rattle.std.specs.List.{sum_by}
 use Rattle.std.specs.Option.{option_to_list}
 use Rattle.std.specs.declared.cmp.Ordering.TheVariants.{Less}
@@ -15,11 +15,12 @@ use Rattle.changes.proofs.Places.{place_tied}
 use Rattle.changes.proofs.Sorted.{all_at}
 use Rattle.change_laws.proofs.Outranking.{Outranks_trans}
 use Rattle.cell_merge.specs.Parts.{IsOutrankedBy}
-use Rattle.cs_base.proofs.Members.{contains_nil, contains_here, contains_there, contains_cases}
+use Rattle.cs_base.proofs.Members.{front_more, contains_nil, contains_here, contains_there, contains_cases}
 use Rattle.partition_content.specs.declared.spots.Spot.{Spot}
-use Rattle.partition_content.specs.Slots.{changes_of}
-use Rattle.partition_content.specs.Lengths.{IsMergedLength, IsKeptWith, IsGainedWith, AreOnce, IsPartLength}
-use Rattle.partition_content.proofs.ToldLemmas.{below_next, split_at}
+use Rattle.partition_content.specs.Slots.{changes_of, IsCountedWith, IsLengthOf, IsNewlyOutranked}
+use Rattle.partition_content.specs.Lengths.{IsMergedLength, IsGainedWith, AreOnce, IsPartLength}
+use Rattle.partition_content.proofs.SlotLemmas.{sum_changes}
+use Rattle.partition_content.proofs.ToldLemmas.{split_at}
 
 -- ---- one change more
 
@@ -72,50 +73,6 @@ part_passed G front x a b p told e =
 pub gained_step : (held front more : List Held) (x : Held) (a b : ℕ) → more ≡ front ++ x ∷ [] → (Contains front x → ⊥) → IsPartLength (IsReachedBy held) front a → IsGainedWith held x a b → IsPartLength (IsReachedBy held) more b
 gained_step held front more x a b e new p (inl (reached, is)) = subst (λ (l : List Held). IsPartLength (IsReachedBy held) l b) (sym e) (part_passed (IsReachedBy held) front x a b p reached is)
 gained_step held front more x a b e new p (inr (free, is)) = subst (λ (l : List Held). IsPartLength (IsReachedBy held) l b) (sym e) (part_taken (IsReachedBy held) front x a b new p free is)
-
--- what a walk over the changes that are held has counted
-pub record IsCounted (incoming all rest : List Held) (n : ℕ) : Type 0 where
-  pub passed : List Held
-  pub split : passed ++ rest ≡ all
-  pub count : IsPartLength (IsOutrankedBy incoming) passed n
-
-pub counted_start : (incoming all it : List Held) → it ≡ all → IsCounted incoming all it 0
-counted_start incoming all it e = record { passed = []; split = e; count = part_start (IsOutrankedBy incoming) }
-
-not_twice : (front rest : List Held) (x : Held) → AreInOrder (front ++ x ∷ rest) → Contains front x → ⊥
-not_twice front rest x ordered h =
-    let less : place_cmp x.place x.place ≡ Less = below_next front rest x x ordered h in
-    let e = sym (place_tied x.place x.place refl) ∙ less in cc
-
-counted_one : (incoming all it rest : List Held) (o : Option Held) (a b : ℕ) → AreInOrder all → it ≡ option_to_list o ++ rest → IsCounted incoming all it a → IsKeptWith incoming o a b → IsCounted incoming all rest b
-counted_one incoming all it rest None a b ordered e c is = record {
-  passed = c.passed;
-  split = ap (λ (l : List Held). c.passed ++ l) (sym e) ∙ c.split;
-  count = subst (IsPartLength (IsOutrankedBy incoming) c.passed) (sym is) c.count;
-}
-counted_one incoming all it rest (Some y) a b ordered e c (inl (over, is)) = record {
-  passed = c.passed ++ y ∷ [];
-  split = append_assoc c.passed (y ∷ []) rest ∙ ap (λ (l : List Held). c.passed ++ l) (sym e) ∙ c.split;
-  count = part_passed (IsOutrankedBy incoming) c.passed y a b c.count over is;
-}
-counted_one incoming all it rest (Some y) a b ordered e c (inr (free, is)) = record {
-  passed = c.passed ++ y ∷ [];
-  split = append_assoc c.passed (y ∷ []) rest ∙ ap (λ (l : List Held). c.passed ++ l) (sym e) ∙ c.split;
-  count = part_taken (IsOutrankedBy incoming) c.passed y a b (not_twice c.passed rest y (subst AreInOrder (sym (ap (λ (l : List Held). c.passed ++ l) (sym e) ∙ c.split)) ordered)) c.count free is;
-}
-
-pub counted_step : (incoming : List Held) (all it rest : List (Spot × Option Held)) (k : Spot) (v : Option Held) (a b : ℕ) → AreInOrder (changes_of all) → it ≡ (k, v) ∷ rest → IsCounted incoming (changes_of all) (changes_of it) a → IsKeptWith incoming v a b → IsCounted incoming (changes_of all) (changes_of rest) b
-counted_step incoming all it rest k v a b ordered e c is = counted_one incoming (changes_of all) (changes_of it) (changes_of rest) v a b ordered (ap changes_of e) c is
-
-pub counted_most : (incoming all rest : List Held) (n : ℕ) → IsCounted incoming all rest n → n + sum_by held_length rest ≤ sum_by held_length all
-counted_most incoming all rest n c =
-    let sum = sum_by-append held_length c.passed rest in
-    let whole = ap (sum_by held_length) c.split in
-    let most = c.count.most in omega (arith, sum, whole, most)
-
-pub counted_end : (incoming : List Held) (all it : List (Spot × Option Held)) (n : ℕ) → it ≡ [] → IsCounted incoming (changes_of all) (changes_of it) n → IsPartLength (IsOutrankedBy incoming) (changes_of all) n
-counted_end incoming all it n none c =
-    subst (λ (l : List Held). IsPartLength (IsOutrankedBy incoming) l n) (sym (append-nil c.passed) ∙ ap (λ (l : List (Spot × Option Held)). c.passed ++ changes_of l) (sym none) ∙ c.split) c.count
 
 -- ---- the same changes have the same length
 
@@ -181,6 +138,118 @@ same_sum (x ∷ xs) ys a b to back =
     (λ z r. elim (contains_cases x xs z (back z (t.within z r))) [ inl is ↦ absurd (t.gone (subst (Contains t.rest) (sym is) r)) | inr k ↦ k ]) in
     let cons = sum_by-cons held_length x xs in
     let sum = t.sum in omega (arith, ih, cons, sum)
+
+-- ---- what is kept, as each change comes
+
+-- a change in a slot that none of the changes outranks counts
+abbrev pub IsKeptWith : List Held → Option Held → ℕ → ℕ → Type 0
+IsKeptWith changes None others all = all ≡ others
+IsKeptWith changes (Some y) others all = (IsOutrankedBy changes y × (all ≡ others)) ⊎ ((IsOutrankedBy changes y → ⊥) × (all ≡ held_length y + others))
+
+-- the changes that none of the others outranks have this length
+abbrev pub AreKept : List Held → List (Spot × Option Held) → ℕ → Type 0
+AreKept changes [] all = all ≡ 0
+AreKept changes (e ∷ es) all = (rest : ℕ) × AreKept changes es rest × IsKeptWith changes e.1 rest all
+
+keep_one : (o : Option Held) (rest : ℕ) → IsKeptWith [] o rest (sum_by held_length (option_to_list o) + rest)
+keep_one None rest = omega arith
+keep_one (Some y) rest = let one = sum_by-cons held_length y [] in inr (λ k. contains_nil k.0 k.1, omega (arith, one))
+
+pub kept_start : (es : List (Spot × Option Held)) → AreKept [] es (sum_by held_length (changes_of es))
+kept_start [] = refl
+kept_start (e ∷ es) =
+    (sum_by held_length (changes_of es), kept_start es, subst (IsKeptWith [] e.1 (sum_by held_length (changes_of es))) (sym (sum_changes e es)) (keep_one e.1 (sum_by held_length (changes_of es))))
+
+-- what stays once x has come too
+pub record IsKeptAfter (front : List Held) (x : Held) (es : List (Spot × Option Held)) (before lost : ℕ) : Type 0 where
+  pub after : ℕ
+  pub kept : AreKept (front ++ x ∷ []) es after
+  pub sum : before ≡ lost + after
+
+outranked_more : (front : List Held) (x y : Held) → IsOutrankedBy front y → IsOutrankedBy (front ++ x ∷ []) y
+outranked_more front x y (z, here, over) = (z, Contains-append_left front (x ∷ []) z here, over)
+
+outranked_cases : (front : List Held) (x y : Held) → IsOutrankedBy (front ++ x ∷ []) y → IsOutrankedBy front y ⊎ Outranks x y
+outranked_cases front x y (z, here, over) =
+    elim (Contains-push_cases front x z here) [ inl before ↦ inl (z, before, over) | inr same ↦ inr (subst (λ (v : Held). Outranks v y) (sym same) over) ]
+
+kept_one : (front : List Held) (x : Held) (o : Option Held) (ra rl rb a l : ℕ) → IsKeptWith front o ra a → IsCountedWith (IsNewlyOutranked front x) o rl l → ra ≡ rl + rb → (b : ℕ) × IsKeptWith (front ++ x ∷ []) o rb b × (a ≡ l + b)
+kept_one front x None ra rl rb a l kept lost sum = (rb, refl, omega (arith, kept, lost, sum))
+kept_one front x (Some y) ra rl rb a l (inl (over, e)) (inl (new, f)) sum = absurd (new.1 over)
+kept_one front x (Some y) ra rl rb a l (inl (over, e)) (inr (old, f)) sum = (rb, inl (outranked_more front x y over, refl), omega (arith, e, f, sum))
+kept_one front x (Some y) ra rl rb a l (inr (free, e)) (inl (new, f)) sum = (rb, inl ((x, Contains-push front x, new.0), refl), omega (arith, e, f, sum))
+kept_one front x (Some y) ra rl rb a l (inr (free, e)) (inr (old, f)) sum =
+    (held_length y + rb, inr (λ k. elim (outranked_cases front x y k) [ inl before ↦ free before | inr over ↦ old (over, free) ], refl), omega (arith, e, f, sum))
+
+pub kept_step : (front : List Held) (x : Held) (es : List (Spot × Option Held)) (a l : ℕ) → AreKept front es a → IsLengthOf (IsNewlyOutranked front x) es l → IsKeptAfter front x es a l
+kept_step front x [] a l kept lost = record { after = 0; kept = refl; sum = omega (arith, kept, lost) }
+kept_step front x (e ∷ es) a l (ra, more, one) (rl, fewer, lost) =
+    let ih : IsKeptAfter front x es ra rl = kept_step front x es ra rl more fewer in
+    let f = kept_one front x e.1 ra rl ih.after a l one lost ih.sum in
+    record { after = f.0; kept = (ih.after, ih.kept, f.1); sum = f.2 }
+
+pub kept_next : (changes : List Held) (i : ℕ) (x : Held) (es : List (Spot × Option Held)) (a l : ℕ) → i < length changes → x ≡ get_or changes i x → AreKept (take i changes) es a → IsLengthOf (IsNewlyOutranked (take i changes) x) es l → AreKept (take (i + 1) changes) es (a - l)
+kept_next changes i x es a l below is kept lost =
+    let s = kept_step (take i changes) x es a l kept lost in
+    let sum = s.sum in
+    subst (AreKept (take (i + 1) changes) es) (let e : s.after ≡ a - l = omega (arith, sum) in e)
+    (subst (λ (c : List Held). AreKept c es s.after) (sym (front_more changes i x below is)) s.kept)
+
+-- what goes was kept
+pub kept_most : (front : List Held) (x : Held) (es : List (Spot × Option Held)) (a l : ℕ) → AreKept front es a → IsLengthOf (IsNewlyOutranked front x) es l → l ≤ a
+kept_most front x es a l kept lost = let s = kept_step front x es a l kept lost in let sum = s.sum in omega (arith, sum)
+
+part_first : (G : Held → Type 0) (xs : List Held) (x : Held) (a b : ℕ) → (Contains xs x → ⊥) → IsPartLength G xs a → (G x → ⊥) → b ≡ held_length x + a → IsPartLength G (x ∷ xs) b
+part_first G xs x a b new p free e =
+    let cons = sum_by-cons held_length x p.part in
+    let more = sum_by-cons held_length x xs in
+    let long = p.long in
+    let most = p.most in
+    record {
+      part = x ∷ p.part;
+      once = (λ h. new (p.within x h).0, p.once);
+      within = λ y h. elim (contains_cases x p.part y h) [
+        | inl same ↦ (subst (Contains (x ∷ xs)) same (contains_here x xs), subst (λ (v : Held). G v → ⊥) same free)
+        | inr later ↦ (contains_there x xs y (p.within y later).0, (p.within y later).1)
+      ];
+      all = λ y h. elim (contains_cases x xs y h) [
+        | inl same ↦ inl (subst (Contains (x ∷ p.part)) same (contains_here x p.part))
+        | inr later ↦ elim (p.all y later) [ inl k ↦ inl (contains_there x p.part y k) | inr g ↦ inr g ]
+      ];
+      long = omega (arith, e, cons, long);
+      most = omega (arith, e, more, most);
+    }
+
+part_without : (G : Held → Type 0) (xs : List Held) (x : Held) (a b : ℕ) → IsPartLength G xs a → G x → b ≡ a → IsPartLength G (x ∷ xs) b
+part_without G xs x a b p told e =
+    let more = sum_by-cons held_length x xs in
+    let long = p.long in
+    let most = p.most in
+    record {
+      part = p.part;
+      once = p.once;
+      within = λ y h. (contains_there x xs y (p.within y h).0, (p.within y h).1);
+      all = λ y h. elim (contains_cases x xs y h) [ inl same ↦ inr (subst G same told) | inr later ↦ p.all y later ];
+      long = omega (arith, e, long);
+      most = omega (arith, e, more, most);
+    }
+
+kept_part_one : (changes : List Held) (o : Option Held) (xs : List Held) (a b : ℕ) → AreOnce (option_to_list o ++ xs) → IsPartLength (IsOutrankedBy changes) xs a → IsKeptWith changes o a b → IsPartLength (IsOutrankedBy changes) (option_to_list o ++ xs) b
+kept_part_one changes None xs a b once p e = subst (IsPartLength (IsOutrankedBy changes) xs) (sym e) p
+kept_part_one changes (Some y) xs a b once p (inl (over, e)) = part_without (IsOutrankedBy changes) xs y a b p over e
+kept_part_one changes (Some y) xs a b once p (inr (free, e)) = part_first (IsOutrankedBy changes) xs y a b once.0 p free e
+
+once_later : (o : Option Held) (xs : List Held) → AreOnce (option_to_list o ++ xs) → AreOnce xs
+once_later None xs once = once
+once_later (Some y) xs once = once.1
+
+kept_part : (changes : List Held) (es : List (Spot × Option Held)) (n : ℕ) → AreOnce (changes_of es) → AreKept changes es n → IsPartLength (IsOutrankedBy changes) (changes_of es) n
+kept_part changes [] n once e = subst (IsPartLength (IsOutrankedBy changes) []) (sym e) (part_start (IsOutrankedBy changes))
+kept_part changes (e ∷ es) n once (rest, more, one) =
+    kept_part_one changes e.1 (changes_of es) rest n once (kept_part changes es rest (once_later e.1 (changes_of es) once) more) one
+
+pub kept_end : (changes : List Held) (es : List (Spot × Option Held)) (n : ℕ) → AreInOrder (changes_of es) → AreKept changes es n → IsPartLength (IsOutrankedBy changes) (changes_of es) n
+kept_end changes es n ordered kept = kept_part changes es n (once_ordered (changes_of es) ordered) kept
 
 -- ---- both parts
 

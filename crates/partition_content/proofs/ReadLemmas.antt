@@ -96,7 +96,7 @@ copies_end old now all it from upto none h x = (
 between_passes : (low high : Ordering) → low ≡ Less → high ≡ Greater → (is_lt low && not (is_le high)) ≡ true
 between_passes low high l h = ap (λ (o : Ordering). is_lt o && not (is_le high)) l ∙ ap (λ (o : Ordering). not (is_le o)) h
 
-row_passes : (from upto : Bound) (p : Place) (row : List ℕ) → row_of p ≡ Some row → IsBetween from upto row → range_contains spot_cmp (Excluded (Edge from)) (Excluded (Edge upto)) (At p) ≡ true
+pub row_passes : (from upto : Bound) (p : Place) (row : List ℕ) → row_of p ≡ Some row → IsBetween from upto row → range_contains spot_cmp (Excluded (Edge from)) (Excluded (Edge upto)) (At p) ≡ true
 row_passes from upto p row e h =
     between_passes (spot_cmp (Edge from) (At p)) (spot_cmp (Edge upto) (At p)) (edge_stands from p row e ∙ h.0)
     (edge_stands upto p row e ∙ signs_total.antisymm (bound_signs upto) (row_signs row) ∙ ap ordering_reverse h.1)
@@ -116,7 +116,7 @@ row_between from upto PartGone row e h = cc
 backward_entry : (from upto : Bound) (s : Spot) → spot_cmp (Edge from) s ≡ Less → spot_cmp (Edge upto) s ≡ Greater → spot_cmp (Edge from) (Edge upto) ≡ Less
 backward_entry from upto s low high = spot_total.trans (Edge from) s (Edge upto) low (spot_total.antisymm s (Edge upto) ∙ ap ordering_reverse high)
 
-both_pass : (low high : Ordering) → (is_lt low && not (is_le high)) ≡ true → (low ≡ Less) × (high ≡ Greater)
+pub both_pass : (low high : Ordering) → (is_lt low && not (is_le high)) ≡ true → (low ≡ Less) × (high ≡ Greater)
 both_pass Less Less h = cc
 both_pass Less Equal h = cc
 both_pass Less Greater h = (refl, refl)
@@ -127,7 +127,7 @@ passed_at : (p : Spot × Option Held → Bool) (b : Bool) (e d : Spot × Option 
 passed_at p false e d more is rest h = rest h
 passed_at p true e d more is rest h = elim (contains_cases {X = Spot × Option Held} e more d h) [ inl same ↦ ap p (sym same) ∙ is | inr later ↦ rest later ]
 
-passes : (p : Spot × Option Held → Bool) (es : List (Spot × Option Held)) (d : Spot × Option Held) → Contains (filter p es) d → p d ≡ true
+pub passes : (p : Spot × Option Held → Bool) (es : List (Spot × Option Held)) (d : Spot × Option Held) → Contains (filter p es) d → p d ≡ true
 passes p [] d h = absurd (contains_nil d h)
 passes p (e ∷ es) d h = passed_at p (p e) e d (filter p es) refl (λ k. passes p es d k) h
 

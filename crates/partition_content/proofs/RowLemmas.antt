@@ -18,35 +18,39 @@ use Rattle.cs_base.proofs.Members.{contains_nil, contains_here, contains_there, 
 use Rattle.partition_content.specs.declared.keys.Keys.{Keys}
 use Rattle.partition_content.specs.declared.keys.Span.TheVariants.{Row}
 use Rattle.partition_content.specs.declared.spots.Spot.{Spot}
-use Rattle.partition_content.specs.declared.spots.Spot.TheVariants.{At}
+use Rattle.partition_content.specs.declared.spots.Spot.TheVariants.{At, Edge}
 use Rattle.partition_content.specs.Spots.{spot_cmp}
 use Rattle.partition_content.specs.SpotLaws.{spot_total}
 use Rattle.partition_content.specs.Keys.{AreKeysOf, span_for, row_end}
-use Rattle.partition_content.specs.Slots.{changes_of, AreFiled, AreCleared, AreLost, IsLostWith, IsRowDeletion}
+use Rattle.partition_content.specs.Slots.{changes_of, AreFiled, AreCleared, IsCountedWith, IsLengthOf}
 use Rattle.partition_content.proofs.SpotLemmas.{edge_stands}
-use Rattle.partition_content.proofs.SlotLemmas.{sum_changes}
+use Rattle.partition_content.proofs.SlotLemmas.{IsLostWith, AreLost, sum_changes}
 use Rattle.partition_content.proofs.PutLemmas.{above_in}
 use Rattle.partition_content.proofs.ClearLemmas.{untouched}
 
+-- x is the deletion of a row, whose keys are from this one on and before the other
+abbrev pub IsRowDeletion : Held → Spot → Spot → Type 0
+IsRowDeletion x at end = (row : List ℕ) × (x.place ≡ RowGone row) × (at ≡ At (RowGone row)) × (end ≡ Edge (record { at = row; after = true }))
+
 -- ---- a part of the tree
 
-passed : (x : Held) (o : Option Held) (n : ℕ) → ((y : Held) → o ≡ Some y → Outranks x y → ⊥) → IsLostWith x o n n
-passed x None n free = refl
-passed x (Some y) n free = inr (free y refl, refl)
+pub passed : (P : Held → Type 0) (o : Option Held) (n : ℕ) → ((y : Held) → o ≡ Some y → P y → ⊥) → IsCountedWith P o n n
+passed P None n free = refl
+passed P (Some y) n free = inr (free y refl, refl)
 
--- what is lost of a part is all that is lost, where x outranks nothing else
-pub lost_filtered : (x : Held) (p : Spot × Option Held → Bool) (es : List (Spot × Option Held)) (n : ℕ) → ((s : Spot) (y : Held) → Contains es (s, Some y) → Outranks x y → p (s, Some y) ≡ true) → AreLost x (filter p es) n → AreLost x es n
-lost_filtered x p [] n inside h = h
-lost_filtered x p (e ∷ es) n inside h =
+-- what a part counts is all that counts, where P is told of nothing else
+pub lost_filtered : (P : Held → Type 0) (p : Spot × Option Held → Bool) (es : List (Spot × Option Held)) (n : ℕ) → ((s : Spot) (y : Held) → Contains es (s, Some y) → P y → p (s, Some y) ≡ true) → IsLengthOf P (filter p es) n → IsLengthOf P es n
+lost_filtered P p [] n inside h = h
+lost_filtered P p (e ∷ es) n inside h =
     elim (cases_Bool (p e)) [
       | inl t ↦
-          let k : AreLost x (e ∷ filter p es) n = subst (λ (b : Bool). AreLost x (cond b (e ∷ filter p es) (filter p es)) n) t h in
-          (k.0, lost_filtered x p es k.0 (λ s y here. inside s y (contains_there {X = Spot × Option Held} e es (s, Some y) here)) k.1, k.2)
+          let k : IsLengthOf P (e ∷ filter p es) n = subst (λ (b : Bool). IsLengthOf P (cond b (e ∷ filter p es) (filter p es)) n) t h in
+          (k.0, lost_filtered P p es k.0 (λ s y here. inside s y (contains_there {X = Spot × Option Held} e es (s, Some y) here)) k.1, k.2)
       | inr f ↦
-          let k : AreLost x (filter p es) n = subst (λ (b : Bool). AreLost x (cond b (e ∷ filter p es) (filter p es)) n) f h in (
+          let k : IsLengthOf P (filter p es) n = subst (λ (b : Bool). IsLengthOf P (cond b (e ∷ filter p es) (filter p es)) n) f h in (
             n,
-            lost_filtered x p es n (λ s y here. inside s y (contains_there {X = Spot × Option Held} e es (s, Some y) here)) k,
-            passed x e.1 n (λ y is over. both_ways (p e) f (subst (λ (o : Option Held). p (e.0, o) ≡ true) (sym is)
+            lost_filtered P p es n (λ s y here. inside s y (contains_there {X = Spot × Option Held} e es (s, Some y) here)) k,
+            passed P e.1 n (λ y is over. both_ways (p e) f (subst (λ (o : Option Held). p (e.0, o) ≡ true) (sym is)
                 (inside e.0 y (subst (λ (o : Option Held). Contains {X = Spot × Option Held} (e ∷ es) (e.0, o)) is (contains_here {X = Spot × Option Held} e es)) over))),
           )
     ]
@@ -84,14 +88,14 @@ row_below row (RowGone r) e = let same : row ≡ r = cc in subst (λ (v : List �
 row_below row (RangeGone f u) e = cc
 row_below row PartGone e = cc
 
-in_row_passes : (row : List ℕ) (p : Place) → row_of p ≡ Some row → range_contains spot_cmp (Included (At (RowGone row))) (Excluded (row_end row)) (At p) ≡ true
+pub in_row_passes : (row : List ℕ) (p : Place) → row_of p ≡ Some row → range_contains spot_cmp (Included (At (RowGone row))) (Excluded (row_end row)) (At p) ≡ true
 in_row_passes row p e =
     ap (λ (b : Bool). b && not (is_le (spot_cmp (row_end row) (At p)))) (row_below row p e) ∙ ap (λ (o : Ordering). not (is_le o)) (row_above row p e)
 
-row_forward : (row : List ℕ) → spot_cmp (At (RowGone row)) (row_end row) ≡ Less
+pub row_forward : (row : List ℕ) → spot_cmp (At (RowGone row)) (row_end row) ≡ Less
 row_forward row = spot_total.antisymm (At (RowGone row)) (row_end row) ∙ ap ordering_reverse (row_above row (RowGone row) refl)
 
-in_row : (row : List ℕ) (q : Place) → Encloses (RowGone row) q → row_of q ≡ Some row
+pub in_row : (row : List ℕ) (q : Place) → Encloses (RowGone row) q → row_of q ≡ Some row
 in_row row q e =
     elim (above_in (RowGone row) q e) [
       | inl none ↦ cc
@@ -118,7 +122,7 @@ row_ahead x at end (row, place, at_is, end_is) =
 
 -- ---- the keys of its deletion
 
-span_row : (bare : Bool) (p : Place) (end : Spot) → span_for bare p ≡ Row end → (row : List ℕ) × (p ≡ RowGone row) × (end ≡ row_end row)
+pub span_row : (bare : Bool) (p : Place) (end : Spot) → span_for bare p ≡ Row end → (row : List ℕ) × (p ≡ RowGone row) × (end ≡ row_end row)
 span_row true (Cell r c) end e = cc
 span_row false (Cell r c) end e = cc
 span_row true (Marker r) end e = cc

@@ -11,10 +11,18 @@ use Rattle.changes.specs.Order.{Outranks}
 use Rattle.cs_base.proofs.Members.{contains_nil, contains_here, contains_there, contains_cases}
 use Rattle.partition_content.specs.declared.spots.Spot.{Spot}
 use Rattle.partition_content.specs.declared.spots.Spot.TheVariants.{At}
-use Rattle.partition_content.specs.Slots.{changes_of, AreFiled, IsCleared, AreCleared, IsLostWith, AreLost}
+use Rattle.partition_content.specs.Slots.{changes_of, AreFiled, IsCleared, AreCleared, IsCountedWith, IsLengthOf}
 
 abbrev Entry : Type 0
 Entry = Spot × Option Held
+
+-- the change in a slot is lost if x outranks it
+abbrev pub IsLostWith : Held → Option Held → ℕ → ℕ → Type 0
+IsLostWith x o rest all = IsCountedWith (λ y. Outranks x y) o rest all
+
+-- the changes that x outranks have this length
+abbrev pub AreLost : Held → List (Spot × Option Held) → ℕ → Type 0
+AreLost x es all = IsLengthOf (λ y. Outranks x y) es all
 
 -- ---- the list of changes
 
@@ -53,7 +61,7 @@ pub cleared_keys : (x : Held) (es fs : List (Spot × Option Held)) → AreCleare
 cleared_keys x [] fs h = ap keys_of h
 cleared_keys x (e ∷ es) fs (slot, rest, one, more, split) = ap keys_of split ∙ ap (λ (l : List Spot). e.0 ∷ l) (cleared_keys x es rest more)
 
-left_in : (x : Held) (old new : Option Held) (y : Held) → IsCleared x old new → new ≡ Some y → (old ≡ Some y) × (Outranks x y → ⊥)
+pub left_in : (x : Held) (old new : Option Held) (y : Held) → IsCleared x old new → new ≡ Some y → (old ≡ Some y) × (Outranks x y → ⊥)
 left_in x None new y none e = cc
 left_in x (Some z) new y (inl (over, none)) e = cc
 left_in x (Some z) new y (inr (free, same)) e = let is : z ≡ y = cc in (ap (λ (v : Held). Some v) is, subst (λ (v : Held). Outranks x v → ⊥) is free)

@@ -1,7 +1,6 @@
 -- The length that the changes have with others.
 use Rattle.std.specs.Prelude.{◌≡◌, ◌≢◌, ℕ, ◌⊎◌, ◌+◌, ◌≤◌, List, [], ◌∷◌, Option, Some, None, Contains}
 use Rattle.std.specs.List.{sum_by}
-use Rattle.cell_merge.specs.Parts.{IsOutrankedBy}
 use Rattle.std.specs.declared.cmp.Ordering.TheVariants.{Less}
 use Rattle.changes.specs.declared.Held.{Held}
 use Rattle.changes.specs.Contents.{IsMergeOf, IsReachedBy}
@@ -25,11 +24,6 @@ abbrev pub IsLengthBeside : SlotMap → Held → ℕ → ℕ → Type 0
 IsLengthBeside slots x before after =
     (IsReachedBy (changes_of slots.entries) x × (after ≡ before))
     ⊎ ((IsReachedBy (changes_of slots.entries) x → IsReachedAt (change_in (slot_at slots (At x.place))) x) × IsLengthAt x (change_in (slot_at slots (At x.place))) before after)
-
--- a change in a slot that none of the changes outranks counts
-abbrev pub IsKeptWith : List Held → Option Held → ℕ → ℕ → Type 0
-IsKeptWith changes None others all = all ≡ others
-IsKeptWith changes (Some y) others all = (IsOutrankedBy changes y × (all ≡ others)) ⊎ ((IsOutrankedBy changes y → ⊥) × (all ≡ held_length y + others))
 
 -- x counts unless a change that is held reaches it
 abbrev pub IsGainedWith : List Held → Held → ℕ → ℕ → Type 0

@@ -3,6 +3,7 @@ pub mod SpotLaws
 pub mod Arrivals
 pub mod Slots
 pub mod Keys
+pub mod Inside
 pub mod Partition
 pub mod Reading
 pub mod Lengths

@@ -14,6 +14,7 @@ use Rattle.partition_content.specs.declared.spots.Spot.TheVariants.{At, Edge}
 use Rattle.partition_content.specs.Slots.{SlotMap, changes_of, HasSlot, IsGood, spots_in}
 use Rattle.partition_content.specs.Arrivals.{held_of}
 use Rattle.partition_content.specs.Keys.{keys_for}
+use Rattle.partition_content.specs.Inside.{AreNoted}
 
 -- the changes with their arrivals, and the places of those for which memory is taken
 pub record Partition : Type 0 where
@@ -61,12 +62,13 @@ is_narrow_at PartGone = false
 abbrev pub is_narrow : Held → Bool
 is_narrow x = is_narrow_at x.place
 
--- there is a change or memory at each of these places, and the keys are theirs
+-- there is a change or memory at each of these places, and the keys are theirs, with those that lie in each
 pub record IsReady (slots : SlotMap) (ready : Ready) : Type 0 where
   pub keys : ready.keys.items ≡ map (keys_for ready.bare) (map place_of_keys ready.keys.items)
   pub there : (place : Place) → Contains (map place_of_keys ready.keys.items) place → HasSlot slots place
   pub bare : ready.bare ≡ true → AreBare (changes_of slots.entries)
   pub narrow : ready.bare ≡ true → (place : Place) → Contains (map place_of_keys ready.keys.items) place → IsInnermost place
+  pub inside : AreNoted (spots_in slots) (map place_of_keys ready.keys.items) ready.inside.items
 
 abbrev pub AreTaken : SlotMap → Option Ready → Type 0
 AreTaken slots None = Unit {0}

@@ -1,11 +1,11 @@
 -- The tree that keeps the changes of a partition: at a key a change with its arrival, or memory for one.
-use Rattle.std.specs.Prelude.{◌≡◌, ◌≢◌, ℕ, ◌⊎◌, ◌+◌, List, [], ◌∷◌, Option, Some, None, Contains, map, flat_map, Bool, true, false, not, is_some}
+use Rattle.std.specs.Prelude.{◌≡◌, ◌≢◌, ℕ, ◌⊎◌, ◌+◌, List, [], ◌∷◌, Option, Some, None, Contains, map, flat_map, Bool, false, not, is_some}
 use Rattle.std.specs.Option.{option_to_list}
 use Rattle.std.specs.BTreeMap.{BTreeMap, is_at}
 use Rattle.std.specs.Map.{keys_of, lookup, set_value}
 use Rattle.changes.specs.declared.Held.{Held}
 use Rattle.changes.specs.declared.Place.{Place}
-use Rattle.changes.specs.declared.Place.TheVariants.{RowGone}
+use Rattle.cell_merge.specs.Parts.{IsOutrankedBy}
 use Rattle.std.specs.List.Sorted.{IsStrictlySortedBy}
 use Rattle.std.specs.declared.cmp.Ordering.TheVariants.{Less}
 use Rattle.changes.specs.Contents.{AreApart, IsReachedBy}
@@ -80,14 +80,33 @@ abbrev pub AreCleared : Held → List (Spot × Option Held) → List (Spot × Op
 AreCleared x [] left = left ≡ []
 AreCleared x (e ∷ es) left = (slot : Option Held) × (rest : List (Spot × Option Held)) × IsCleared x e.1 slot × AreCleared x es rest × (left ≡ (e.0, slot) ∷ rest)
 
-abbrev pub IsLostWith : Held → Option Held → ℕ → ℕ → Type 0
-IsLostWith x None rest all = all ≡ rest
-IsLostWith x (Some y) rest all = (Outranks x y × (all ≡ held_length y + rest)) ⊎ ((Outranks x y → ⊥) × (all ≡ rest))
+-- the change in a slot counts if P is told of it
+abbrev pub IsCountedWith : (Held → Type 0) → Option Held → ℕ → ℕ → Type 0
+IsCountedWith P None rest all = all ≡ rest
+IsCountedWith P (Some y) rest all = (P y × (all ≡ held_length y + rest)) ⊎ ((P y → ⊥) × (all ≡ rest))
 
--- the changes that x outranks have this length
-abbrev pub AreLost : Held → List (Spot × Option Held) → ℕ → Type 0
-AreLost x [] all = all ≡ 0
-AreLost x (e ∷ es) all = (rest : ℕ) × AreLost x es rest × IsLostWith x e.1 rest all
+-- the changes of which P is told have this length
+abbrev pub IsLengthOf : (Held → Type 0) → List (Spot × Option Held) → ℕ → Type 0
+IsLengthOf P [] all = all ≡ 0
+IsLengthOf P (e ∷ es) all = (rest : ℕ) × IsLengthOf P es rest × IsCountedWith P e.1 rest all
+
+-- x outranks the change, and none of the others does
+abbrev pub IsNewlyOutranked : List Held → Held → Held → Type 0
+IsNewlyOutranked others x y = Outranks x y × (IsOutrankedBy others y → ⊥)
+
+-- what x outranks was cleared from the slot at a key, if there is one
+abbrev pub IsClearedFrom : Held → Spot → List (Spot × Option Arrived) → List (Spot × Option Arrived) → Option (Option Arrived) → Type 0
+IsClearedFrom x at old new None = new ≡ old
+IsClearedFrom x at old new (Some v) =
+    (w : Option Arrived) × IsCleared x (held_in v) (held_in w) × ((w ≡ v) ⊎ (w ≡ None)) × (new ≡ set_value (is_at (spot_cmp at)) old w)
+
+-- the change at the key has gone if x outranks it, and nothing else
+abbrev pub IsClearedAt : Held → Spot → List (Spot × Option Arrived) → List (Spot × Option Arrived) → Type 0
+IsClearedAt x at old new = IsClearedFrom x at old new (lookup (is_at (spot_cmp at)) old)
+
+-- all changes that x outranks are at these keys
+abbrev pub AreOutrankedAmong : Held → List (Spot × Option Held) → List Spot → Type 0
+AreOutrankedAmong x es keys = (s : Spot) (y : Held) → Contains es (s, Some y) → Outranks x y → Contains keys s
 
 abbrev pub IsReachedAt : Option Held → Held → Type 0
 IsReachedAt None x = ⊥
@@ -151,7 +170,3 @@ AreLeft old new = (a : Arrived) → Contains (stored_of new) a → Contains (sto
 abbrev pub is_wide_spot : Spot → Bool
 is_wide_spot (At place) = not (is_some (row_of place))
 is_wide_spot (Edge bound) = false
-
--- x is the deletion of a row, whose keys are from this one on and before the other
-abbrev pub IsRowDeletion : Held → Spot → Spot → Type 0
-IsRowDeletion x at end = (row : List ℕ) × (x.place ≡ RowGone row) × (at ≡ At (RowGone row)) × (end ≡ Edge (record { at = row; after = true }))

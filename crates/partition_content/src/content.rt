@@ -1,6 +1,6 @@
 //! What a node keeps of a partition.
 
-ghost use Rattle.std.specs.Prelude.{◌≡◌, ◌↔◌, [], None, Contains, IsTrue, IfOk, OnOk, OnErr, IfSome, IfNone};
+ghost use Rattle.std.specs.Prelude.{◌≡◌, ◌↔◌, ◌≤◌, [], None, length, Contains, IsTrue, IfOk, OnOk, OnErr, IfSome, IfNone};
 ghost use Rattle.cell_merge.specs.Settled.{IsSettled};
 ghost use Rattle.changes.specs.Contents.{IsMergeOf};
 ghost use Rattle.changes.specs.Lengths.{changes_length};
@@ -73,7 +73,8 @@ impl PartitionContent {
     }
 
     /// Takes all the memory that `apply` needs for these changes, so that it can't fail. The changes stay as they are. Memory
-    /// that was taken before for others is given back. It is an error too where the length would not be below 2^64.
+    /// that was taken before for others is given back. It is an error too where the length would not be below 2^64. A change
+    /// costs the logarithm of the changes held, and a deletion of rows also what is held in its place: a copy of each key there.
     pub fn reserve(&mut self, incoming: &Content) -> Result<(), AllocError>
         ensures stored { self.new.stored ≡ self.old.stored }
         ensures ready { OnOk result (IsReadyFor self.new incoming.now) }
@@ -85,13 +86,15 @@ impl PartitionContent {
             return Err(AllocError);
         }
         let bare = stays_bare(self.bare, changes);
-        let keys = take_memory(&mut self.slots, self.alloc, bare, changes)?;
-        self.ready = Some(Ready { bare, keys });
+        let ready = take_memory(&mut self.slots, self.alloc, bare, changes)?;
+        self.ready = Some(ready);
         Ok(())
     }
 
     /// Puts in changes for which there is memory, at a node time: the content is then that of both. What was there keeps its
-    /// arrival, also where it comes again, and what was not comes at this time. It takes no memory, and moves the changes.
+    /// arrival, also where it comes again, and what was not comes at this time. It takes no memory, and moves the changes. A
+    /// change costs the logarithm of the changes held and the number of deletions of ranges, and a deletion of rows also what
+    /// is held in its place.
     pub fn apply(&mut self, incoming: Content, at: Micros)
         requires { IsReadyFor self.old incoming }
         ensures content { IsMergeOf (changes_in self.new) (changes_in self.old) incoming }
@@ -105,6 +108,7 @@ impl PartitionContent {
                 self.alloc,
                 ready.bare,
                 &ready.keys,
+                &ready.inside,
                 incoming.into_changes(),
                 at,
             );
@@ -113,8 +117,9 @@ impl PartitionContent {
         }
     }
 
-    /// The length that `apply` would leave, as the changes are stored, told before it is called; `reserve` has to come first. Cells
-    /// and markers cost the logarithm of the changes held; with a deletion of rows each change held is looked at.
+    /// The length that `apply` would leave, as the changes are stored, told before it is called; `reserve` has to come first. It
+    /// costs what `apply` costs, and where deletions of rows come, for each change that is outranked the logarithm of those that
+    /// come and the number of deletions of ranges among them.
     pub fn length_with(&self, incoming: &Content) -> u64
         requires { IsReadyFor self.now incoming.now }
         ensures { IsMergedLength (changes_in self.now) incoming.now result }
@@ -139,8 +144,7 @@ impl PartitionContent {
         ensures { IfOk result (λ part. IsSlice from.now upto.now (changes_in self.now) part) }
     {
         let changes = copy_slice(alloc, &self.slots, from, upto)?;
-        let part = Content::from_changes(alloc, changes)?;
-        Ok(part)
+        Ok(Content::from_settled(changes))
     }
 
     /// All changes, in memory of their own.
@@ -148,9 +152,7 @@ impl PartitionContent {
         ensures { IfOk result (λ content. content ≡ changes_in self.now) }
     {
         let changes = copy_all(alloc, &self.slots)?;
-        let content = Content::from_changes(alloc, changes)?;
-        let _ = content.as_slice();
-        Ok(content)
+        Ok(Content::from_settled(changes))
     }
 
     /// All changes with their arrivals, in the order of their places, in memory of their own.
@@ -181,5 +183,12 @@ impl PartitionContent {
         ensures settled { IsSettled (changes_in self.now) }
     {
         self.length
+    }
+
+    /// How many keys the tree has: one for each change, and one for each place for which memory is taken.
+    pub fn key_count(&self) -> usize
+        ensures { length self.now.stored ≤ result }
+    {
+        self.slots.len()
     }
 }

@@ -1,6 +1,6 @@
 //! The length that the changes have with others, told before these are put in.
 
-ghost use Rattle.std.specs.Prelude.{◌≡◌, ◌↔◌, ◌+◌, ◌<◌, ◌≤◌, ◌^◌, true, Some, IsTrue, map};
+ghost use Rattle.std.specs.Prelude.{◌≡◌, ◌+◌, ◌<◌, ◌≤◌, ◌^◌, true, Some, Bool, map};
 ghost use Rattle.std.specs.List.{sum_by};
 ghost use Rattle.std.specs.Option.{option_to_list};
 ghost use Rattle.cell_merge.specs.Parts.{IsOutrankedBy};
@@ -9,21 +9,21 @@ ghost use Rattle.changes.specs.Lengths.{held_length, changes_length};
 ghost use Rattle.changes.specs.Places.{AreInOrder};
 ghost use Rattle.partition_content.specs.declared.spots.Spot.TheVariants.{At};
 ghost use Rattle.partition_content.specs.Spots.{spot_cmp};
-ghost use Rattle.partition_content.specs.Slots.{held_in, helds_in, helds_of, slot_at, changes_of, change_in, IsGood};
+ghost use Rattle.partition_content.specs.Slots.{helds_in, helds_of, slot_at, changes_of, change_in, IsGood};
 ghost use Rattle.partition_content.specs.Keys.{keys_for};
-ghost use Rattle.partition_content.specs.Lengths.{IsGainedWith, IsKeptWith, IsLengthAt, IsLengthBeside, IsMergedLength, IsPartLength};
+ghost use Rattle.partition_content.specs.Lengths.{IsGainedWith, IsLengthAt, IsLengthBeside, IsMergedLength, IsPartLength};
 ghost use Rattle.partition_content.specs.Partition.{place_of, AreSlotsFor, AreBare};
 
-use crate::Arrived;
 use crate::keys::Keys;
+use crate::losing::lost_by;
 use crate::memory::are_narrow;
-use crate::slots::{Slots, change_at, whole};
+use crate::slots::{Slots, change_at};
 use crate::spots::Spot;
 use crate::taking::{is_outranked_over, is_reached_at};
+use cell_merge::Rivals;
 use changes::{Held, encoded_length};
 use std::alloc::Global;
 use std::cmp::Ordering;
-use std::collections::btree_map::Range;
 
 /// The length with x in place of a change of its place, if x beats it.
 fn length_after(held: &Held, length: u64, x: &Held) -> u64
@@ -93,41 +93,20 @@ fn length_with_cells(
     length
 }
 
-/// Whether one of the changes outranks x.
-fn is_outranked_by(changes: &[Held], x: &Held) -> bool
-    ensures { IsTrue result ↔ IsOutrankedBy changes.now x.now }
+/// The length of the changes that are there and that none of the others outranks, by a look at what lies in their places.
+fn kept_length(slots: &Slots, length: u64, alloc: Global, keys: &[Keys], changes: &[Held]) -> u64
+    requires keys { (bare : Bool) × (keys.now ≡ map (keys_for bare) (map place_of changes.now)) }
+    requires good { IsGood (helds_of slots.now) }
+    requires length { length ≡ changes_length (changes_of (helds_in slots.now.entries)) }
+    requires ordered { AreInOrder changes.now }
+    ensures { IsPartLength (IsOutrankedBy changes.now) (changes_of (helds_in slots.now.entries)) result }
 {
-    for y in changes {
-        if y.outranks(x) {
-            return true;
-        }
-    }
-    false
-}
-
-/// The length of the change in a slot, unless one of the changes outranks it, with that of others.
-fn kept_with(slot: &Option<Arrived>, changes: &[Held], others: u64) -> u64
-    requires { sum_by held_length (option_to_list (held_in slot.now)) + others < 2 ^ 64 }
-    ensures { IsKeptWith changes.now (held_in slot.now) others result }
-{
-    let Some(there) = slot else {
-        return others;
-    };
-    if is_outranked_by(changes, &there.held) {
-        return others;
-    }
-    there.held.encoded_length() + others
-}
-
-/// The length of the changes on a walk that none of the changes outranks.
-fn kept_length(walk: Range<'_, Spot, Option<Arrived>>, changes: &[Held]) -> u64
-    requires fits { sum_by held_length (changes_of (helds_in walk)) < 2 ^ 64 }
-    requires ordered { AreInOrder (changes_of (helds_in walk)) }
-    ensures { IsPartLength (IsOutrankedBy changes.now) (changes_of (helds_in walk.entry)) result }
-{
-    let mut kept = 0;
-    for (_, slot) in walk {
-        kept = kept_with(slot, changes, kept);
+    let mut kept = length - encoded_length(&[]);
+    let mut at = 0;
+    for x in changes {
+        let before = Rivals::new(&changes[..at]);
+        kept -= lost_by(slots, alloc, &keys[at], &before, x);
+        at += 1;
     }
     kept
 }
@@ -167,9 +146,10 @@ fn gained_length(slots: &Slots, alloc: Global, bare: bool, keys: &[Keys], change
     gained
 }
 
-/// The length with changes of any kind for which there is memory, by a look at all that are there.
+/// The length with changes of any kind for which there is memory.
 fn length_with_deletions(
     slots: &Slots,
+    length: u64,
     alloc: Global,
     bare: bool,
     keys: &[Keys],
@@ -177,13 +157,14 @@ fn length_with_deletions(
 ) -> u64
     requires keys { keys.now ≡ map (keys_for bare) (map place_of changes.now) }
     requires good { IsGood (helds_of slots.now) }
+    requires length { length ≡ changes_length (changes_of (helds_in slots.now.entries)) }
     requires fits { changes_length (changes_of (helds_in slots.now.entries)) + sum_by held_length changes.now < 2 ^ 64 }
     requires bare { bare ≡ true → AreBare (changes_of (helds_in slots.now.entries)) }
     requires ordered { AreInOrder changes.now }
     requires apart { AreApart changes.now }
     ensures { IsMergedLength (changes_of (helds_in slots.now.entries)) changes.now result }
 {
-    let kept = kept_length(whole(slots), changes);
+    let kept = kept_length(slots, length, alloc, keys, changes);
     let gained = gained_length(slots, alloc, bare, keys, changes);
     encoded_length(&[]) + kept + gained
 }
@@ -210,5 +191,5 @@ pub(crate) fn length_with(
     if are_narrow(changes) {
         return length_with_cells(slots, length, alloc, bare, keys, changes);
     }
-    length_with_deletions(slots, alloc, bare, keys, changes)
+    length_with_deletions(slots, length, alloc, bare, keys, changes)
 }

@@ -3,9 +3,12 @@
 
 ghost use Rattle.std.specs.Prelude.{◌≡◌, IfOk};
 
+mod clearing;
 mod content;
+mod inside;
 mod keys;
 mod lengths;
+mod losing;
 mod memory;
 mod reading;
 mod slots;

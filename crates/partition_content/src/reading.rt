@@ -4,10 +4,12 @@ ghost use Rattle.std.specs.Prelude.{◌≡◌, ◌⊎◌, ◌++◌, ◌↔◌, L
 ghost use Rattle.std.specs.Option.{option_to_list};
 ghost use Rattle.changes.specs.declared.Held.{Held as held_value};
 ghost use Rattle.std.specs.declared.cmp.Ordering.TheVariants.{Less};
-ghost use Rattle.changes.specs.Places.{bound_cmp};
+ghost use Rattle.std.specs.List.Sorted.{IsStrictlySortedBy};
+ghost use Rattle.changes.specs.Places.{bound_cmp, AreInOrder};
 ghost use Rattle.changes.specs.Queries.{MeetsBounds};
-ghost use Rattle.partition_content.specs.Slots.{stored_of, held_in, helds_in, changes_of, AreFiled};
-ghost use Rattle.partition_content.specs.Reading.{wide_of, rows_of, first_row as first_key};
+ghost use Rattle.partition_content.specs.Spots.{spot_cmp};
+ghost use Rattle.partition_content.specs.Slots.{stored_of, held_in, helds_in, helds_of, spots_in, changes_of, AreFiled};
+ghost use Rattle.partition_content.specs.Reading.{wide_of, rows_of, first_row as first_key, IsAdded};
 
 use crate::Arrived;
 use crate::slots::{Slots, whole};
@@ -37,7 +39,8 @@ fn copy_if_met(
     from: &Bound,
     upto: &Bound,
 ) -> Result<(), AllocError>
-    ensures { OnOk result ((x : held_value) → Contains onto.new.items x ↔ (Contains onto.old.items x ⊎ ((held_in slot.now ≡ Some x) × MeetsBounds from.now upto.now x.place))) }
+    ensures met { OnOk result ((x : held_value) → Contains onto.new.items x ↔ (Contains onto.old.items x ⊎ ((held_in slot.now ≡ Some x) × MeetsBounds from.now upto.now x.place))) }
+    ensures added { OnOk result (IsAdded (held_in slot.now) onto.old.items onto.new.items) }
 {
     if let Some(there) = slot {
         if there.held.place.meets(from, upto) {
@@ -55,7 +58,8 @@ fn copy_met(
     from: &Bound,
     upto: &Bound,
 ) -> Result<(), AllocError>
-    ensures { OnOk result ((x : held_value) → Contains onto.new.items x ↔ (Contains onto.old.items x ⊎ (Contains (changes_of (helds_in walk.entry)) x × MeetsBounds from.now upto.now x.place))) }
+    ensures met { OnOk result ((x : held_value) → Contains onto.new.items x ↔ (Contains onto.old.items x ⊎ (Contains (changes_of (helds_in walk.entry)) x × MeetsBounds from.now upto.now x.place))) }
+    ensures ordered { OnOk result (AreInOrder (onto.old.items ++ changes_of (helds_in walk.entry)) → AreInOrder onto.new.items) }
 {
     for (_, slot) in walk {
         copy_if_met(onto, alloc, slot, from, upto)?;
@@ -71,7 +75,8 @@ fn copy_wide(
     from: &Bound,
     upto: &Bound,
 ) -> Result<(), AllocError>
-    ensures { OnOk result ((x : held_value) → Contains onto.new.items x ↔ (Contains onto.old.items x ⊎ (Contains (changes_of (wide_of (helds_in slots.now.entries))) x × MeetsBounds from.now upto.now x.place))) }
+    ensures met { OnOk result ((x : held_value) → Contains onto.new.items x ↔ (Contains onto.old.items x ⊎ (Contains (changes_of (wide_of (helds_in slots.now.entries))) x × MeetsBounds from.now upto.now x.place))) }
+    ensures ordered { OnOk result (AreInOrder (onto.old.items ++ changes_of (wide_of (helds_in slots.now.entries))) → AreInOrder onto.new.items) }
 {
     let rows = first_row(alloc);
     let walk = slots.range((ops::Bound::Unbounded, ops::Bound::Excluded(&rows)));
@@ -87,7 +92,8 @@ fn copy_between(
     upto: &Bound,
 ) -> Result<(), AllocError>
     requires { bound_cmp from.now upto.now ≡ Less }
-    ensures { OnOk result ((x : held_value) → Contains onto.new.items x ↔ (Contains onto.old.items x ⊎ (Contains (changes_of (rows_of from.now upto.now (helds_in slots.now.entries))) x × MeetsBounds from.now upto.now x.place))) }
+    ensures met { OnOk result ((x : held_value) → Contains onto.new.items x ↔ (Contains onto.old.items x ⊎ (Contains (changes_of (rows_of from.now upto.now (helds_in slots.now.entries))) x × MeetsBounds from.now upto.now x.place))) }
+    ensures ordered { OnOk result (AreInOrder (onto.old.items ++ changes_of (rows_of from.now upto.now (helds_in slots.now.entries))) → AreInOrder onto.new.items) }
 {
     let low = Spot::Edge(from.copy(alloc)?);
     let high = Spot::Edge(upto.copy(alloc)?);
@@ -103,7 +109,8 @@ fn copy_rows(
     from: &Bound,
     upto: &Bound,
 ) -> Result<(), AllocError>
-    ensures { OnOk result ((x : held_value) → Contains onto.new.items x ↔ (Contains onto.old.items x ⊎ (Contains (changes_of (rows_of from.now upto.now (helds_in slots.now.entries))) x × MeetsBounds from.now upto.now x.place))) }
+    ensures met { OnOk result ((x : held_value) → Contains onto.new.items x ↔ (Contains onto.old.items x ⊎ (Contains (changes_of (rows_of from.now upto.now (helds_in slots.now.entries))) x × MeetsBounds from.now upto.now x.place))) }
+    ensures ordered { OnOk result (AreInOrder (onto.old.items ++ changes_of (rows_of from.now upto.now (helds_in slots.now.entries))) → AreInOrder onto.new.items) }
 {
     match from.cmp(upto) {
         Ordering::Less => copy_between(onto, alloc, slots, from, upto),
@@ -111,15 +118,17 @@ fn copy_rows(
     }
 }
 
-/// Copies of the changes that meet the bounds.
+/// Copies of the changes that meet the bounds, in order.
 pub(crate) fn copy_slice(
     alloc: Global,
     slots: &Slots,
     from: &Bound,
     upto: &Bound,
 ) -> Result<Vec<Held>, AllocError>
-    requires { AreFiled (helds_in slots.now.entries) }
-    ensures { IfOk result (λ part. (x : held_value) → Contains part.items x ↔ (Contains (changes_of (helds_in slots.now.entries)) x × MeetsBounds from.now upto.now x.place)) }
+    requires filed { AreFiled (helds_in slots.now.entries) }
+    requires sorted { IsStrictlySortedBy spot_cmp (spots_in (helds_of slots.now)) }
+    ensures ordered { IfOk result (λ part. AreInOrder part.items) }
+    ensures met { IfOk result (λ part. (x : held_value) → Contains part.items x ↔ (Contains (changes_of (helds_in slots.now.entries)) x × MeetsBounds from.now upto.now x.place)) }
 {
     let mut part = Vec::new(alloc);
     copy_wide(&mut part, alloc, slots, from, upto)?;

@@ -2,7 +2,7 @@
 
 ghost use Rattle.std.specs.Prelude.{◌≡◌, ◌⊎◌, ◌↔◌, ◌+◌, ◌<◌, ◌≤◌, ◌^◌, ℕ, List, [], true, false, Some, None, IsTrue, IsSome, IfOk, OnOk, OnErr, Contains};
 ghost use Rattle.std.specs.Option.{option_copied};
-ghost use Rattle.std.specs.BTreeMap.{get, keys, is_at};
+ghost use Rattle.std.specs.BTreeMap.{get, keys, is_at, insert_entry, IsOrdered};
 ghost use Rattle.std.specs.declared.cmp.Ordering.TheVariants.{Less};
 ghost use Rattle.std.specs.Map.{set_value};
 ghost use Rattle.std.specs.List.Sorted.{IsStrictlySortedBy};
@@ -12,7 +12,7 @@ ghost use Rattle.std.specs.Option.{option_to_list};
 ghost use Rattle.std.specs.List.{sum_by};
 ghost use Rattle.changes.specs.Lengths.{held_length};
 ghost use Rattle.partition_content.specs.Spots.{spot_cmp};
-ghost use Rattle.partition_content.specs.Slots.{stored_of, stored_in, held_in, helds_in, helds_of, spots_in, slot_at, changes_of, change_in, AreFiled, IsCleared, AreCleared, AreLeft, IsLostWith, AreLost, IsPutIn, ComesIn, IsPutAt, IsRowDeletion};
+ghost use Rattle.partition_content.specs.Slots.{stored_of, stored_in, held_in, helds_in, helds_of, spots_in, slot_at, changes_of, change_in, AreFiled, IsPutIn, ComesIn, IsPutAt};
 
 use crate::Arrived;
 use crate::spots::Spot;
@@ -22,7 +22,6 @@ use std::alloc::{AllocError, Global};
 use std::cmp::Ordering;
 use std::collections::BTreeMap;
 use std::collections::btree_map::Range;
-use std::ops;
 
 /// The changes with their arrivals, by their keys. A key without a change is memory that is taken for one.
 pub(crate) type Slots = BTreeMap<Spot, Option<Arrived>>;
@@ -47,6 +46,17 @@ pub(crate) fn change_at<'a>(slots: &'a Slots, at: &Spot) -> Option<&'a Held>
     }
 }
 
+/// Has the tree hold this key, with what it holds there, or memory alone.
+fn make_at(slots: &mut Slots, at: Spot) -> Result<(), AllocError>
+    ensures made { OnOk result (slots.new.entries ≡ insert_entry spot_cmp slots.old.entries at (stored_in (get spot_cmp slots.old at))) }
+    ensures ordered { OnOk result (IsOrdered spot_cmp slots.new) }
+    ensures kept { OnErr result (slots.new.entries ≡ slots.old.entries) }
+    ensures was { IsOrdered spot_cmp slots.old }
+{
+    slots.entry(at)?.or_insert(None);
+    Ok(())
+}
+
 /// Takes memory for a change at a key.
 pub(crate) fn make_slot(slots: &mut Slots, alloc: Global, at: &Spot) -> Result<(), AllocError>
     ensures stored { stored_of slots.new.entries ≡ stored_of slots.old.entries }
@@ -55,10 +65,7 @@ pub(crate) fn make_slot(slots: &mut Slots, alloc: Global, at: &Spot) -> Result<(
     ensures filed { AreFiled (helds_in slots.old.entries) → AreFiled (helds_in slots.new.entries) }
     ensures sorted { IsStrictlySortedBy spot_cmp (spots_in (helds_of slots.old)) → IsStrictlySortedBy spot_cmp (spots_in (helds_of slots.new)) }
 {
-    if slots.contains_key(at) {
-        return Ok(());
-    }
-    slots.insert(at.copy(alloc)?, None)?;
+    make_at(slots, at.copy(alloc)?)?;
     Ok(())
 }
 
@@ -132,69 +139,6 @@ pub(crate) fn drop_unused(slots: &mut Slots, at: &Spot)
     if is_unused(slots, at) {
         slots.remove(at);
     }
-}
-
-/// Takes out the change in a slot, if x outranks it.
-fn clear(slot: &mut Option<Arrived>, x: &Held)
-    ensures cleared { IsCleared x.now (held_in slot.old) (held_in slot.new) }
-    ensures left { (slot.new ≡ slot.old) ⊎ (slot.new ≡ None) }
-{
-    if let Some(there) = slot {
-        if x.outranks(&there.held) {
-            *slot = None;
-        }
-    }
-}
-
-/// Takes out the changes that x outranks.
-pub(crate) fn clear_all(slots: &mut Slots, x: &Held)
-    ensures cleared { AreCleared x.now (helds_in slots.old.entries) (helds_in slots.new.entries) }
-    ensures left { AreLeft slots.old.entries slots.new.entries }
-    ensures keys { spots_in (helds_of slots.new) ≡ spots_in (helds_of slots.old) }
-{
-    slots.retain(|_, slot| {
-        clear(slot, x);
-        true
-    });
-}
-
-/// The length of the change in a slot, if x outranks it, with that of others.
-fn lost_with(slot: &Option<Arrived>, x: &Held, others: u64) -> u64
-    requires { sum_by held_length (option_to_list (held_in slot.now)) + others < 2 ^ 64 }
-    ensures { IsLostWith x.now (held_in slot.now) others result }
-{
-    match slot {
-        Some(there) => if x.outranks(&there.held) {
-            there.held.encoded_length() + others
-        } else {
-            others
-        },
-        None => others,
-    }
-}
-
-/// The length of the changes on a walk that x outranks.
-pub(crate) fn lost_on(walk: Range<'_, Spot, Option<Arrived>>, x: &Held) -> u64
-    requires { sum_by held_length (changes_of (helds_in walk)) < 2 ^ 64 }
-    ensures { AreLost x.now (helds_in walk.entry) result }
-{
-    let mut lost = 0;
-    for (_, slot) in walk {
-        lost = lost_with(slot, x, lost);
-    }
-    lost
-}
-
-/// The length of the changes that the deletion of a row outranks: all stand between the deletion's own key and the row's end.
-pub(crate) fn lost_in_row(slots: &Slots, at: &Spot, end: &Spot, x: &Held) -> u64
-    requires row { IsRowDeletion x.now at.now end.now }
-    requires forward { spot_cmp at.now end.now ≡ Less }
-    requires filed { AreFiled (helds_in slots.now.entries) }
-    requires fits { sum_by held_length (changes_of (helds_in slots.now.entries)) < 2 ^ 64 }
-    ensures { AreLost x.now (helds_in slots.now.entries) result }
-{
-    let walk = slots.range((ops::Bound::Included(at), ops::Bound::Excluded(end)));
-    lost_on(walk, x)
 }
 
 /// All of it, in order.

@@ -1,7 +1,7 @@
 //! How the tree takes in a change: what is there stays exactly where the change doesn't outrank it, and the change is put in
 //! exactly where nothing that is there is it or outranks it.
 
-ghost use Rattle.std.specs.Prelude.{◌≡◌, ◌≢◌, ◌⊎◌, ◌↔◌, ◌+◌, ◌<◌, ◌≤◌, ◌^◌, ℕ, List, [], true, false, Some, None, IsTrue, IsSome, Contains, map};
+ghost use Rattle.std.specs.Prelude.{◌≡◌, ◌≢◌, ◌⊎◌, ◌↔◌, ◌+◌, ◌<◌, ◌≤◌, ◌^◌, ℕ, List, [], true, false, Some, None, IsTrue, IsSome, IfSome, Contains, map, slice_get};
 ghost use Rattle.std.specs.BTreeMap.{keys as keys_in};
 ghost use Rattle.std.specs.List.{sum_by};
 ghost use Rattle.std.specs.List.Sorted.{IsStrictlySortedBy};
@@ -13,15 +13,19 @@ ghost use Rattle.changes.specs.Order.{Outranks};
 ghost use Rattle.partition_content.specs.Spots.{spot_cmp};
 ghost use Rattle.partition_content.specs.declared.spots.Spot.TheVariants.{At};
 ghost use Rattle.partition_content.specs.Arrivals.{ComeAt};
-ghost use Rattle.partition_content.specs.Slots.{AreCleared, AreLeft, ComesAlone, AreLost, is_wide_spot, stored_of, held_in, helds_in, helds_of, spots_in, slot_at, changes_of, change_in, AreFiled, HasSlot, IsReachedAt, IsOutrankedAt, IsOutrankedFrom, IsOutrankedUnder, IsGood};
+ghost use Rattle.partition_content.specs.Slots.{AreCleared, AreLeft, ComesAlone, IsLengthOf, IsNewlyOutranked, is_wide_spot, stored_of, held_in, helds_in, helds_of, spots_in, slot_at, changes_of, change_in, AreFiled, HasSlot, IsReachedAt, IsOutrankedAt, IsOutrankedFrom, IsOutrankedUnder, IsGood};
+ghost use Rattle.partition_content.specs.Inside.{IsInside, AreNoted};
 ghost use Rattle.partition_content.specs.Keys.{AreKeysOf, keys_for};
 ghost use Rattle.partition_content.specs.Partition.{place_of, AreSlotsFor, AreBare, IsTakenIn};
 
 use crate::Arrived;
+use crate::clearing::clear_inside;
 use crate::keys::{Keys, Span};
+use crate::losing::lost_by;
 use crate::reading::first_row;
-use crate::slots::{Slots, change_at, clear_all, lost_in_row, lost_on, put_at, put_own, whole};
+use crate::slots::{Slots, change_at, put_at, put_own};
 use crate::spots::Spot;
+use cell_merge::Rivals;
 use changes::Held;
 use cs_base::Micros;
 use std::alloc::Global;
@@ -129,34 +133,33 @@ pub(crate) fn is_outranked_over(
     is_outranked_by_wide(slots, alloc, x)
 }
 
-/// The length of the changes that the deletion of rows outranks.
-fn lost_by(slots: &Slots, own: &Keys, x: &Held) -> u64
-    requires keys { AreKeysOf own.now x.now.place }
-    requires filed { AreFiled (helds_in slots.now.entries) }
-    requires fits { sum_by held_length (changes_of (helds_in slots.now.entries)) < 2 ^ 64 }
-    ensures { AreLost x.now (helds_in slots.now.entries) result }
-{
-    match &own.span {
-        Span::Row(end) => lost_in_row(slots, &own.at, end, x),
-        Span::Alone | Span::Under(_) | Span::Rows(_, _) | Span::All => lost_on(whole(slots), x),
-    }
-}
-
-/// Takes out the changes that x outranks, which have this length together.
-fn clear(slots: &mut Slots, x: &Held, lost: u64)
-    requires { AreLost x.now (helds_in slots.old.entries) lost }
+/// Takes out the changes that x outranks, which have this length together and are at its own key or inside its place.
+fn clear(slots: &mut Slots, at: &Spot, inside: &[Spot], x: &Held, lost: u64)
+    requires at { at.now ≡ At x.now.place }
+    requires good { IsGood (helds_of slots.old) }
+    requires inside { IsInside (spots_in (helds_of slots.old)) x.now.place inside.now }
+    requires lost { IsLengthOf (IsNewlyOutranked [] x.now) (helds_in slots.old.entries) lost }
     ensures cleared { AreCleared x.now (helds_in slots.old.entries) (helds_in slots.new.entries) }
     ensures left { AreLeft slots.old.entries slots.new.entries }
     ensures keys { spots_in (helds_of slots.new) ≡ spots_in (helds_of slots.old) }
 {
     if lost != 0 {
-        clear_all(slots, x);
+        clear_inside(slots, at, inside, x);
     }
 }
 
 /// Takes in a deletion of rows for which there is memory, and gives the length that the changes then have.
-fn put_deletion(slots: &mut Slots, length: u64, own: &Keys, x: Held, time: Micros) -> u64
+fn put_deletion(
+    slots: &mut Slots,
+    length: u64,
+    alloc: Global,
+    own: &Keys,
+    inside: &[Spot],
+    x: Held,
+    time: Micros,
+) -> u64
     requires keys { AreKeysOf own.now x.place }
+    requires inside { IsInside (spots_in (helds_of slots.old)) x.place inside.now }
     requires slot { HasSlot (helds_of slots.old) x.place }
     requires good { IsGood (helds_of slots.old) }
     requires length { length ≡ changes_length (changes_of (helds_in slots.old.entries)) }
@@ -168,9 +171,10 @@ fn put_deletion(slots: &mut Slots, length: u64, own: &Keys, x: Held, time: Micro
     if is_reached_at(slots, &own.at, &x) {
         return length;
     }
-    let lost = lost_by(slots, own, &x);
+    let alone = Rivals::new(&[]);
+    let lost = lost_by(slots, alloc, own, &alone, &x);
     let gained = x.encoded_length();
-    clear(slots, &x, lost);
+    clear(slots, &own.at, inside, &x, lost);
     put_at(slots, &own.at, x, time);
     length - lost + gained
 }
@@ -197,10 +201,12 @@ pub(crate) fn put(
     alloc: Global,
     bare: bool,
     own: &Keys,
+    inside: &[Spot],
     x: Held,
     time: Micros,
 ) -> u64
     requires keys { own.now ≡ keys_for bare x.place }
+    requires inside { IsInside (spots_in (helds_of slots.old)) x.place inside.now }
     requires slot { HasSlot (helds_of slots.old) x.place }
     requires good { IsGood (helds_of slots.old) }
     requires length { length ≡ changes_length (changes_of (helds_in slots.old.entries)) }
@@ -215,7 +221,19 @@ pub(crate) fn put(
     }
     match &own.span {
         Span::Alone | Span::Under(_) => put_cell(slots, length, own, x, time),
-        Span::Row(_) | Span::Rows(_, _) | Span::All => put_deletion(slots, length, own, x, time),
+        Span::Row(_) | Span::Rows(_, _) | Span::All => {
+            put_deletion(slots, length, alloc, own, inside, x, time)
+        }
+    }
+}
+
+/// The keys that were noted for one of the places.
+fn noted_at(inside: &[Vec<Spot>], at: usize) -> &[Spot]
+    ensures { IfSome (slice_get inside.now at) (λ keys. result.now ≡ keys.items) }
+{
+    match inside.get(at) {
+        Some(keys) => keys.as_slice(),
+        None => &[],
     }
 }
 
@@ -226,10 +244,12 @@ pub(crate) fn put_all(
     alloc: Global,
     bare: bool,
     keys: &[Keys],
+    inside: &[Vec<Spot>],
     changes: Vec<Held>,
     time: Micros,
 ) -> u64
     requires keys { keys.now ≡ map (keys_for bare) (map place_of changes.items) }
+    requires inside { AreNoted (spots_in (helds_of slots.old)) (map place_of changes.items) inside.now }
     requires slots { AreSlotsFor (helds_of slots.old) changes.items }
     requires good { IsGood (helds_of slots.old) }
     requires length { length ≡ changes_length (changes_of (helds_in slots.old.entries)) }
@@ -244,7 +264,16 @@ pub(crate) fn put_all(
     let mut length = length;
     let mut at = 0;
     for x in changes {
-        length = put(slots, length, alloc, bare, &keys[at], x, time);
+        length = put(
+            slots,
+            length,
+            alloc,
+            bare,
+            &keys[at],
+            noted_at(inside, at),
+            x,
+            time,
+        );
         at += 1;
     }
     length

@@ -15,6 +15,8 @@ pub enum Invalid {
     Level,
     /// A table that isn't there.
     UnknownTable,
+    /// A partition whose content at the node would grow too large.
+    PartitionTooLarge,
     /// Its statement asks for nothing that can be done.
     Statement(Fault),
 }
@@ -40,6 +42,8 @@ pub enum Refusal {
     },
     Overloaded,
     Invalid(Invalid),
+    /// The node does not run.
+    Down,
 }
 
 /// What the answer of a read rests on: the replicas that replied, in order, and the merge of their replies.
@@ -67,8 +71,14 @@ pub enum Entry {
     Rows(ReqId, ShownRows, bool, Grounds),
     /// The node's time after an event.
     Time(NodeId, Micros),
-    /// A request that the node could not begin.
+    /// The nodes that the node takes for alive after an event, by rising number.
+    Marks(NodeId, NodeIds),
+    /// A request that the node could not begin, or that came to a node that does not run.
     Turned(NodeId, Refusal),
+    /// After a flush the node has so many tables.
+    Tables(NodeId, u32),
+    /// The node's store failed, and the node stopped.
+    Stopped(NodeId),
 }
 
 pub type Entries = Items<Entry>;

@@ -7,3 +7,5 @@ mod printed_scripts;
 mod running;
 #[cfg(test)]
 mod scripts;
+#[cfg(test)]
+mod stopping;

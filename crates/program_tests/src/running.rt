@@ -115,8 +115,98 @@ fn answers_scripts_of_three_nodes(rt: HostRuntime) -> Result<(), Fail> {
         ),
     ];
     for (lines, want) in cases {
-        let mut script = String::from_str(rt.alloc(), HEAD_OF_THREE)?;
-        script.push_str(lines)?;
+        let ended = of_three_nodes(rt.alloc(), lines)?;
+        assert_eq!(rt; ended.status, Status::Ok, "{lines}");
+        assert_eq!(rt; ended.text.as_slice(), want.as_bytes(), "{lines}");
+    }
+    Ok(())
+}
+
+/// What these lines print behind the head of three nodes.
+fn of_three_nodes(alloc: Global, lines: &str) -> Result<Ended, AllocError> {
+    let mut script = String::from_str(alloc, HEAD_OF_THREE)?;
+    script.push_str(lines)?;
+    run(alloc, "script", script.as_str(), &SOUND)
+}
+
+// A stop before the gate of a log entry is written leaves nothing of it, whatever of the entry is in the file; behind it
+// all is there.
+#[test]
+fn loads_what_was_kept(rt: HostRuntime) -> Result<(), Fail> {
+    let cases = [
+        (
+            "put 0 QUORUM k a 5 x\nstopat 1 1 torn\ndeliver 0 1 1\nrestart 1\nget 1 ONE k\n",
+            "2 rows 0\n",
+        ),
+        (
+            "put 0 QUORUM k a 5 x\nstopat 1 1 kept\ndeliver 0 1 1\nrestart 1\nget 1 ONE k\n",
+            "2 rows 0\n",
+        ),
+        (
+            "put 0 QUORUM k a 5 x\nstopat 1 4 kept\ndeliver 0 1 1\nrestart 1\nget 1 ONE k\n",
+            "2 rows 1\n 'a' | 'x'\n",
+        ),
+        (
+            "crash 1 kept\nget 1 ONE k\nflush 1\nclock 1 9\nrestart 1\nrestart 1\nget 1 ONE k\nflush 1\nmerge 2\n",
+            "1 down\n2 rows 0\ntables 1 0\ntables 2 0\n",
+        ),
+        (
+            "failat 1 1\ncrash 1 lost\nrestart 1\nfailat 2 1\ncrash 2 lost\nfailat 2 1\nrestart 2\nrestart 2\nget 2 ONE k\n",
+            "stopped 2\n1 rows 0\n",
+        ),
+    ];
+    for (lines, want) in cases {
+        let ended = of_three_nodes(rt.alloc(), lines)?;
+        assert_eq!(rt; ended.status, Status::Ok, "{lines}");
+        assert_eq!(rt; ended.text.as_slice(), want.as_bytes(), "{lines}");
+    }
+    Ok(())
+}
+
+// A message from more than a minute ahead is not taken, and one that is older than the head says changes nothing.
+#[test]
+fn takes_messages_in_their_time(rt: HostRuntime) -> Result<(), Fail> {
+    let cases = [
+        (
+            "clock 0 60000001\nput 0 ALL k a 5 x\ndeliver 0 1 1\nget 1 ONE k\n",
+            "2 rows 0\n",
+        ),
+        (
+            "clock 0 60000001\nput 0 ALL k a 5 x\nclock 1 2\ndeliver 0 1 1\nget 1 ONE k\n",
+            "2 rows 1\n 'a' | 'x'\n",
+        ),
+        (
+            "put 0 ONE k a 5 x\nclock 1 10800000000\ndeliver 0 1 1\nget 1 ONE k\n",
+            "1 ok\n2 rows 1\n 'a' | 'x'\n",
+        ),
+        (
+            "put 0 ONE k a 5 x\nclock 1 10800000001\ndeliver 0 1 1\nget 1 ONE k\n",
+            "1 ok\n2 rows 0\n",
+        ),
+    ];
+    for (lines, want) in cases {
+        let ended = of_three_nodes(rt.alloc(), lines)?;
+        assert_eq!(rt; ended.status, Status::Ok, "{lines}");
+        assert_eq!(rt; ended.text.as_slice(), want.as_bytes(), "{lines}");
+    }
+    Ok(())
+}
+
+// A call that fails stops its node; what was acknowledged before is found again.
+#[test]
+fn answers_through_stops(rt: HostRuntime) -> Result<(), Fail> {
+    let cases = [
+        (
+            "failat 0 2\nput 0 ONE k a 5 x\nget 0 ONE k\nrestart 0\nget 0 ONE k\n",
+            "stopped 0\n2 down\n3 rows 0\n",
+        ),
+        (
+            "put 0 ONE k a 5 x\ncrash 0 lost\nrestart 0\nget 0 ONE k\n",
+            "1 ok\n2 rows 1\n 'a' | 'x'\n",
+        ),
+    ];
+    for (lines, want) in cases {
+        let script = behind_head(rt.alloc(), lines)?;
         let ended = run(rt.alloc(), "script", script.as_str(), &SOUND)?;
         assert_eq!(rt; ended.status, Status::Ok, "{lines}");
         assert_eq!(rt; ended.text.as_slice(), want.as_bytes(), "{lines}");

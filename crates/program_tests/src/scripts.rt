@@ -1,5 +1,6 @@
 //! Scripts, and what they mean, written by hand.
 
+use cs_base::NodeId;
 use fault_script::{
     CqlRequest, GetRequest, MessagePlace, ParseError, PutRequest, Script, ScriptError, ScriptEvent,
     ScriptEvents, parse,
@@ -58,6 +59,50 @@ settle 1 1|Line(5)
 settle x|Line(5)
 settle 0|Number(5)
 settle 100001|Number(5)
+clock 0 5000001|clock 0 5000001
+clock 2  018446744073709551615|clock 2 18446744073709551615
+clock 0|Line(5)
+clock 0 -1|Line(5)
+clock 0 1 1|Line(5)
+clock 3 1|Number(5)
+clock 0 18446744073709551616|Number(5)
+crash 0 kept|crash 0 Kept
+crash 01 lost|crash 1 Lost
+crash 2 torn|crash 2 Torn
+crash 0|Line(5)
+crash 0 Kept|Line(5)
+crash 9 gone|Line(5)
+crash 0 kept kept|Line(5)
+crash x kept|Line(5)
+crash 3 kept|Number(5)
+stopat 1 4 kept|stopat 1 4 Kept
+stopat 0 01 torn|stopat 0 1 Torn
+stopat 0 4294967295 lost|stopat 0 4294967295 Lost
+stopat 0 0 kept|Number(5)
+stopat 0 4294967296 kept|Number(5)
+stopat 3 1 kept|Number(5)
+stopat 0 0 keep|Line(5)
+stopat 0 kept|Line(5)
+stopat 0 1|Line(5)
+stopat 0 x kept|Line(5)
+failat 0 2|failat 0 2
+failat 2 4294967295|failat 2 4294967295
+failat 0 0|Number(5)
+failat 0 4294967296|Number(5)
+failat 3 1|Number(5)
+failat 0|Line(5)
+failat 0 1 kept|Line(5)
+restart 0|restart 0
+restart 3|Number(5)
+restart|Line(5)
+restart 0 0|Line(5)
+restart x|Line(5)
+flush 002|flush 2
+flush 3|Number(5)
+flush|Line(5)
+merge 1|merge 1
+merge 18446744073709551616|Number(5)
+merge 1 1|Line(5)
 run|Line(5)
  |Line(5)
 cql 0 ONE SELECT * FROM t WHERE k = 1|cql 0 One <SELECT * FROM t WHERE k = 1>
@@ -201,6 +246,47 @@ fn write_place(shown: &mut String, verb: &str, place: MessagePlace) -> Result<()
     Ok(())
 }
 
+/// A line that names a node, and perhaps a number.
+fn write_node(
+    shown: &mut String,
+    verb: &str,
+    node: NodeId,
+    number: Option<u64>,
+) -> Result<(), Fail> {
+    let node = node.number();
+    write!(shown, "{verb} {node}")?;
+    if let Some(number) = number {
+        write!(shown, " {number}")?;
+    }
+    Ok(())
+}
+
+/// What befalls a node.
+fn write_node_event(shown: &mut String, event: &ScriptEvent) -> Result<(), Fail> {
+    match event {
+        ScriptEvent::Clock(node, micros) => {
+            write_node(shown, "clock", *node, Some(micros.count()))
+        }
+        ScriptEvent::Crash(node, outcome) => {
+            write_node(shown, "crash", *node, None)?;
+            write!(shown, " {outcome:?}")?;
+            Ok(())
+        }
+        ScriptEvent::StopAt(node, call, outcome) => {
+            write_node(shown, "stopat", *node, Some(u64::from(*call)))?;
+            write!(shown, " {outcome:?}")?;
+            Ok(())
+        }
+        ScriptEvent::FailAt(node, call) => {
+            write_node(shown, "failat", *node, Some(u64::from(*call)))
+        }
+        ScriptEvent::Restart(node) => write_node(shown, "restart", *node, None),
+        ScriptEvent::Flush(node) => write_node(shown, "flush", *node, None),
+        ScriptEvent::Merge(node) => write_node(shown, "merge", *node, None),
+        _ => Ok(()),
+    }
+}
+
 fn write_event(shown: &mut String, event: &ScriptEvent) -> Result<(), Fail> {
     match event {
         ScriptEvent::Put(put) => write_put(shown, put),
@@ -212,6 +298,7 @@ fn write_event(shown: &mut String, event: &ScriptEvent) -> Result<(), Fail> {
             write!(shown, "settle {count}")?;
             Ok(())
         }
+        _ => write_node_event(shown, event),
     }
 }
 

@@ -1,5 +1,5 @@
 -- Each move keeps what is known.
-use Rattle.std.proofs.Common.{◌≡◌, ℕ, inl, inr, Bool, Option, Some, None, List, [], ◌∷◌, ◌++◌, refl, sym, ap, subst, ◌∙◌, Contains, reverse}
+use Rattle.std.proofs.Common.{◌≡◌, ℕ, ◌⊎◌, inl, inr, Bool, true, false, Option, Some, None, List, [], ◌∷◌, ◌++◌, refl, sym, ap, subst, ◌∙◌, Contains, reverse}
 use Rattle.std.specs.Prelude.{slice_get, slice_set, if◌then◌else◌}
 use Rattle.std.specs.Ordering.{nat_cmp}
 use Rattle.std.specs.declared.cmp.Ordering.TheVariants.{Equal}
@@ -17,143 +17,185 @@ use Rattle.statement_plan.specs.declared.plan.Columns.{Columns}
 use Rattle.changes.specs.Drafts.{mutation_of}
 use Rattle.changes.proofs.Orderings.{then_equal}
 use Rattle.changes.proofs.Ranks.{request_made}
-use Rattle.cs_base.proofs.Members.{contains_nil, contains_cases, contains_here, contains_from_map}
 use Rattle.cs_base.proofs.Entries.{from_insert_entry}
+use Rattle.cs_base.proofs.Slots.{some_one}
+use Rattle.cs_base.proofs.Members.{contains_nil, contains_cases, contains_here, contains_from_map}
 use Rattle.peer_messages.specs.declared.event.Ask.{Ask}
 use Rattle.peer_messages.specs.declared.event.Plan.{Plan}
 use Rattle.peer_messages.specs.declared.event.Plan.TheVariants as plan
 use Rattle.peer_messages.specs.declared.message.Body.TheVariants.{Write, Read}
+use Rattle.peer_messages.specs.declared.chronicle.Entry.{Entry}
 use Rattle.peer_messages.specs.declared.chronicle.Entry.TheVariants.{Submitted, Refused, Used, Began}
 use Rattle.peer_messages.specs.declared.chronicle.Refusal.{Refusal}
 use Rattle.peer_messages.specs.declared.outcome.Outbound.{Outbound}
 use Rattle.peer_messages.specs.declared.setting.Setting.{Setting}
 use Rattle.peer_messages.specs.Settings.{marked, alive_at}
-use Rattle.node_steps.specs.State.{NodeState, OpenWrite, OpenRead, changes_of, Holds}
+use Rattle.durable_state.specs.State.{changes_of, Holds}
+use Rattle.node_steps.specs.State.{NodeState, OpenWrite, OpenRead}
 use Rattle.node_steps.specs.Effects.{Effects, nothing, effects_of, outbound, send_to}
 use Rattle.node_steps.specs.Writes.{start_write, started_write}
 use Rattle.node_steps.specs.Reads.{start_read, started_read}
 use Rattle.node_steps.specs.Requests.{Begins, BeginsOrRefuses}
-use Rattle.node_steps.specs.Acts.{Act, Rises, Asks, Marks, Does}
+use Rattle.node_steps.specs.Acts.{Act, Rises, Asks, Marks, Does, ceiling_after}
 use Rattle.cluster_runs.specs.Chronicle.{submission_of}
-use Rattle.cluster_runs.specs.Trace.{Scene, MayTake}
-use Rattle.read_consistency.proofs.Facts.{WasBegun, Reaches, IsOf, BodyOk, WriteOk, ReadOk, NodeOk, Explains}
-use Rattle.read_consistency.proofs.Grows.{node_on, itself}
+use Rattle.cluster_runs.specs.Trace.{Scene, MayTake, AreTold, entered, loser}
+use Rattle.cluster_runs.proofs.Submissions.{itself}
+use Rattle.read_consistency.proofs.Facts.{WasBegun, Reaches, IsOf, BodyOk, WriteOk, ReadOk, NodeOk, EntryOk, Explains}
+use Rattle.read_consistency.specs.ReadRight.{HasStart, IsRightEntry}
+use Rattle.read_consistency.proofs.Grows.{Grows, IsNew, node_on}
 use Rattle.read_consistency.proofs.Step.{deed_of, quietly, telling, quietly_grows, telling_grows, explains_quietly, explains_telling}
 
--- the scene behind a move
-abbrev pub next : Scene → ℕ → Act → NodeState → Effects → NodeState → Scene
-next w k a s o s' = record { nodes = slice_set w.nodes k s'; chronicle = reverse o.entries ++ w.chronicle; past = deed_of k a s s' o ∷ w.past }
+-- the scene behind a move, of which no entry comes into the chronicle if its outputs are lost
+abbrev pub next : Scene → ℕ → Bool → Act → NodeState → Effects → NodeState → Scene
+next w k lost a s o s' = record { nodes = slice_set w.nodes k s'; chronicle = reverse (entered lost o.entries) ++ w.chronicle; past = deed_of k a s s' o ∷ w.past; losing = w.losing }
 
-pub some_one : {X : Type 0} {x y : X} → Some x ≡ Some y → x ≡ y
-some_one h = cc
+abbrev pub only_sends : List Outbound → Effects
+only_sends sends = record { sends = sends; entries = [] }
+
+abbrev pub with_one : List Outbound → Entry → Effects
+with_one sends e = record { sends = sends; entries = e ∷ [] }
+
+pub quiet_next : (c : Setting) (w : Scene) (k : ℕ) (lost : Bool) (a : Act) (s s' : NodeState) (sends : List Outbound) → Explains c (quietly w k a s s' (only_sends sends)) → Explains c (next w k lost a s (only_sends sends) s')
+quiet_next c w k true a s s' sends e = e
+quiet_next c w k false a s s' sends e = e
 
 pub request_exact : (a b : ReqId) → request_cmp a b ≡ Equal → a ≡ b
 request_exact a b e = let both = then_equal (nat_cmp a.node b.node) _ e in request_made (exact_unsigned a.node b.node both.0) (exact_unsigned a.time b.time both.1)
 
-pub same_node : (w : Scene) (s r : NodeState) → r.content ≡ s.content → r.writes ≡ s.writes → r.reads ≡ s.reads → NodeOk w s → NodeOk w r
-same_node w s r content writes reads h = record {
-  of = subst (λ cs. (p : Partition) (x : Held) → Holds (changes_of cs) p x → IsOf w.chronicle p (Reaches (changes_of cs) p) x) (sym content) h.of;
-  writes = λ id o c. h.writes id o (subst (λ (es : List (ReqId × OpenWrite)). Contains es (id, o)) writes c);
-  reads = λ id o c. h.reads id o (subst (λ (es : List (ReqId × OpenRead)). Contains es (id, o)) reads c);
-}
-
 pub none_sent : (w : Scene) (k : ℕ) (x : Outbound) → Contains [] x → BodyOk w k x
 none_sent w k x h = absurd (contains_nil x h)
 
+-- the node has what it had, under other names
+same_node : (w : Scene) (k : ℕ) (s r : NodeState) → r.content ≡ s.content → r.writes ≡ s.writes → r.reads ≡ s.reads → NodeOk w k s → NodeOk w k r
+same_node w k s r content writes reads ok = record {
+  of = λ p x h.
+      subst (λ cs. IsOf w.chronicle p (Reaches (changes_of cs) p) x) (sym content) (ok.of p x (subst (λ cs. Holds (changes_of cs) p x) content h));
+  writes = λ id o h. ok.writes id o (subst (λ (xs : List (ReqId × OpenWrite)). Contains xs (id, o)) writes h);
+  reads = λ id o h. ok.reads id o (subst (λ (xs : List (ReqId × OpenRead)). Contains xs (id, o)) reads h);
+}
+
 -- a move by which a node keeps all and tells nothing
-pub same_case : (c : Setting) (w : Scene) (k : ℕ) (a : Act) (s r : NodeState) → Explains c w → slice_get w.nodes k ≡ Some s → r.content ≡ s.content → r.writes ≡ s.writes → r.reads ≡ s.reads → Explains c (next w k a s nothing r)
-same_case c w k a s r e at content writes reads =
+pub same_case : (c : Setting) (w : Scene) (k : ℕ) (lost : Bool) (a : Act) (s r : NodeState) → Explains c w → slice_get w.nodes k ≡ Some s → r.content ≡ s.content → r.writes ≡ s.writes → r.reads ≡ s.reads
+    → Explains c (next w k lost a s nothing r)
+same_case c w k lost a s r e at content writes reads =
     let more : (p : Partition) (x : Held) → Reaches (changes_of s.content) p x → Reaches (changes_of r.content) p x = λ p x h. subst (λ cs. Reaches (changes_of cs) p x) (sym content) h in
-    let w' = quietly w k a s r [] in
-    let g = quietly_grows w k a s r [] at more in
-    explains_quietly c w k a s r [] e at more (same_node w' s r content writes reads (node_on c w w' g e s (e.nodes k s at))) (none_sent w' k)
+    let w' = quietly w k a s r nothing in
+    let g = quietly_grows w k a s r nothing at more in
+    quiet_next c w k lost a s r [] (explains_quietly c w k a s r nothing e at more (same_node w' k s r content writes reads (node_on c w w' g e k (λ l. l) s (e.nodes k s at))) (none_sent w' k))
+
+-- an entry, or a lost one, by a node that stays in a state of which this is known in each later scene
+pub one_entry : (c : Setting) (w : Scene) (k : ℕ) (lost : Bool) (a : Act) (s r : NodeState) (x : Entry) → Explains c w → slice_get w.nodes k ≡ Some s → ((p : Partition) (y : Held) → Reaches (changes_of s.content) p y → Reaches (changes_of r.content) p y) → IsNew w.past x
+    → ((w' : Scene) → Grows w w' → w'.losing ≡ w.losing → NodeOk w' k r) → EntryOk c (telling w k a s r [] x) x → IsRightEntry c w.chronicle x → Explains c (next w k lost a s (with_one [] x) r)
+one_entry c w k true a s r x e at more new node entry right =
+    let w' = quietly w k a s r (with_one [] x) in
+    explains_quietly c w k a s r (with_one [] x) e at more (node w' (quietly_grows w k a s r (with_one [] x) at more) refl) (none_sent w' k)
+one_entry c w k false a s r x e at more new node entry right =
+    let w' = telling w k a s r [] x in
+    explains_telling c w k a s r [] x e at more new (node w' (telling_grows w k a s r [] x at more new) refl) (none_sent w' k) entry right
+
+-- the node as it was
+pub node_later : (c : Setting) (w : Scene) (k : ℕ) (s : NodeState) → Explains c w → slice_get w.nodes k ≡ Some s → (w' : Scene) → Grows w w' → w'.losing ≡ w.losing → NodeOk w' k s
+node_later c w k s e at w' g losing = node_on c w w' g e k (λ l. losing ∙ l) s (e.nodes k s at)
 
 -- ---- time rises, a node is marked, and a request is refused
 
-pub rises_case : (c : Setting) (w : Scene) (k t : ℕ) (s s' : NodeState) (o : Effects) → Explains c w → slice_get w.nodes k ≡ Some s → Does c k s (Rises t) o s' → Explains c (next w k (Rises t) s o s')
-rises_case c w k t s s' o e at (later, is, same) =
-    subst (λ (x : Effects). Explains c (next w k (Rises t) s x s')) (sym is)
-    (subst (λ (x : NodeState). Explains c (next w k (Rises t) s nothing x)) (sym same) (same_case c w k (Rises t) s (record s { time = t }) e at refl refl refl))
+pub rises_case : (c : Setting) (w : Scene) (k : ℕ) (lost : Bool) (t : ℕ) (s s' : NodeState) (o : Effects) → Explains c w → slice_get w.nodes k ≡ Some s → Does c k s (Rises t) o s' → Explains c (next w k lost (Rises t) s o s')
+rises_case c w k lost t s s' o e at (later, is, same) =
+    subst (λ (x : Effects). Explains c (next w k lost (Rises t) s x s')) (sym is)
+    (subst (λ (x : NodeState). Explains c (next w k lost (Rises t) s nothing x)) (sym same)
+    (same_case c w k lost (Rises t) s (record s { time = t; risen = t; ceiling = ceiling_after s.ceiling t }) e at refl refl refl))
 
-pub marks_case : (c : Setting) (w : Scene) (k peer : ℕ) (up : Bool) (s s' : NodeState) (o : Effects) → Explains c w → slice_get w.nodes k ≡ Some s → Does c k s (Marks peer up) o s' → Explains c (next w k (Marks peer up) s o s')
-marks_case c w k peer up s s' o e at (is, same) =
-    subst (λ (x : Effects). Explains c (next w k (Marks peer up) s x s')) (sym is)
-    (subst (λ (x : NodeState). Explains c (next w k (Marks peer up) s nothing x)) (sym same)
-    (same_case c w k (Marks peer up) s (record s { down = marked s.down peer up }) e at refl refl refl))
+pub marks_case : (c : Setting) (w : Scene) (k : ℕ) (lost : Bool) (peer : ℕ) (up : Bool) (s s' : NodeState) (o : Effects) → Explains c w → slice_get w.nodes k ≡ Some s → Does c k s (Marks peer up) o s'
+    → Explains c (next w k lost (Marks peer up) s o s')
+marks_case c w k lost peer up s s' o e at (is, same) =
+    subst (λ (x : Effects). Explains c (next w k lost (Marks peer up) s x s')) (sym is)
+    (subst (λ (x : NodeState). Explains c (next w k lost (Marks peer up) s nothing x)) (sym same)
+    (same_case c w k lost (Marks peer up) s (record s { down = marked s.down peer up }) e at refl refl refl))
 
-refused_case : (c : Setting) (w : Scene) (k : ℕ) (a : Act) (id : ReqId) (r : Refusal) (s s' : NodeState) (o : Effects) → Explains c w → slice_get w.nodes k ≡ Some s → o ≡ record { sends = []; entries = Refused id r ∷ [] } → s' ≡ s
-    → Explains c (next w k a s o s')
-refused_case c w k a id r s s' o e at is same =
-    let w' = telling w k a s s [] (Refused id r) in
-    let g = telling_grows w k a s s [] (Refused id r) at (λ p x h. h) tt in
-    subst (λ (x : Effects). Explains c (next w k a s x s')) (sym is)
-    (subst (λ (x : NodeState). Explains c (next w k a s (record { sends = []; entries = Refused id r ∷ [] }) x)) (sym same)
-    (explains_telling c w k a s s [] (Refused id r) e at (λ p x h. h) tt (node_on c w w' g e s (e.nodes k s at)) (none_sent w' k) tt tt))
+-- what is not looked at
+pub unheard_case : (c : Setting) (w : Scene) (k : ℕ) (lost : Bool) (a : Act) (s s' : NodeState) (o : Effects) → Explains c w → slice_get w.nodes k ≡ Some s → o ≡ nothing → s' ≡ s → Explains c (next w k lost a s o s')
+unheard_case c w k lost a s s' o e at is same =
+    subst (λ (x : Effects). Explains c (next w k lost a s x s')) (sym is)
+    (subst (λ (x : NodeState). Explains c (next w k lost a s nothing x)) (sym same) (same_case c w k lost a s s e at refl refl refl))
 
-used_case : (c : Setting) (w : Scene) (k : ℕ) (a : Act) (id : ReqId) (keyspace : List ℕ) (s s' : NodeState) (o : Effects) → Explains c w → slice_get w.nodes k ≡ Some s → o ≡ record { sends = []; entries = Used id keyspace ∷ [] } → s' ≡ s
-    → Explains c (next w k a s o s')
-used_case c w k a id keyspace s s' o e at is same =
-    let w' = telling w k a s s [] (Used id keyspace) in
-    let g = telling_grows w k a s s [] (Used id keyspace) at (λ p x h. h) tt in
-    subst (λ (x : Effects). Explains c (next w k a s x s')) (sym is)
-    (subst (λ (x : NodeState). Explains c (next w k a s (record { sends = []; entries = Used id keyspace ∷ [] }) x)) (sym same)
-    (explains_telling c w k a s s [] (Used id keyspace) e at (λ p x h. h) tt (node_on c w w' g e s (e.nodes k s at)) (none_sent w' k) tt tt))
+refused_case : (c : Setting) (w : Scene) (k : ℕ) (lost : Bool) (a : Act) (id : ReqId) (r : Refusal) (s s' : NodeState) (o : Effects) → Explains c w → slice_get w.nodes k ≡ Some s → o ≡ record { sends = []; entries = Refused id r ∷ [] } → s' ≡ s
+    → Explains c (next w k lost a s o s')
+refused_case c w k lost a id r s s' o e at is same =
+    subst (λ (x : Effects). Explains c (next w k lost a s x s')) (sym is)
+    (subst (λ (x : NodeState). Explains c (next w k lost a s (with_one [] (Refused id r)) x)) (sym same) (one_entry c w k lost a s s (Refused id r) e at (λ p x h. h) tt (node_later c w k s e at) tt tt))
+
+used_case : (c : Setting) (w : Scene) (k : ℕ) (lost : Bool) (a : Act) (id : ReqId) (keyspace : List ℕ) (s s' : NodeState) (o : Effects) → Explains c w → slice_get w.nodes k ≡ Some s → o ≡ record { sends = []; entries = Used id keyspace ∷ [] } → s' ≡ s
+    → Explains c (next w k lost a s o s')
+used_case c w k lost a id keyspace s s' o e at is same =
+    subst (λ (x : Effects). Explains c (next w k lost a s x s')) (sym is)
+    (subst (λ (x : NodeState). Explains c (next w k lost a s (with_one [] (Used id keyspace)) x)) (sym same) (one_entry c w k lost a s s (Used id keyspace) e at (λ p x h. h) tt (node_later c w k s e at) tt tt))
 
 -- ---- a write begins
 
-write_case : (c : Setting) (w : Scene) (k : ℕ) (ask : Ask) (s : NodeState) (d : DraftMutation) (l : Level) → Explains c w → slice_get w.nodes k ≡ Some s → MayTake w.past k s (Asks ask)
-    → let id : ReqId = record { node = k; time = s.time } in
-    Explains c (next w k (Asks ask) s (effects_of (start_write c s.down id d)) (record s { writes = insert_entry request_cmp s.writes id (started_write l d) }))
-write_case c w k ask s d l e at may =
-    let id : ReqId = record { node = k; time = s.time } in
-    let m = mutation_of id d in
-    let ks = alive_at c s.down d.partition in
-    let r : NodeState = record s { writes = insert_entry request_cmp s.writes id (started_write l d) } in
-    let w' = telling w k (Asks ask) s r (send_to id (Write m) ks) (Submitted id m) in
-    let new : WasBegun w.past id → ⊥ = λ b. may b.0 b.1 b.2 in
-    let g = telling_grows w k (Asks ask) s r (send_to id (Write m) ks) (Submitted id m) at (λ p x h. h) new in
-    let old = node_on c w w' g e s (e.nodes k s at) in
-    let begun : WasBegun w'.past id = (deed_of k (Asks ask) s r (effects_of (start_write c s.down id d)), contains_here _ w.past, (refl, refl, (ask, refl))) in
-    let submission : submission_of w'.chronicle id ≡ Some m = ap (λ (b : Bool). if b then Some m else submission_of w.chronicle id) (itself id) in
+abbrev writing : NodeState → ReqId → Level → DraftMutation → NodeState
+writing s id l d = record s { writes = insert_entry request_cmp s.writes id (started_write l d) }
+
+-- where what it submits is the last under its id
+write_node : (c : Setting) (w w' : Scene) (k : ℕ) (s : NodeState) (id : ReqId) (l : Level) (d : DraftMutation) → NodeOk w' k s → WasBegun w'.past id → submission_of w'.chronicle id ≡ Some (mutation_of id d) → NodeOk w' k (writing s id l d)
+write_node c w w' k s id l d old begun submission =
     let fresh : WriteOk w' id (started_write l d) = record {
       begun = begun;
       partition = λ n sub. ap (λ (x : Mutation). x.partition) (some_one (sym sub ∙ submission));
       heard = λ j h. absurd (contains_nil j h);
     } in
-    explains_telling c w k (Asks ask) s r (send_to id (Write m) ks) (Submitted id m) e at (λ p x h. h) new
-    (record {
+    record {
       of = old.of;
       writes = λ i o h. elim (from_insert_entry request_cmp request_exact s.writes id (started_write l d) (i, o) h) [
         | inl is ↦ subst (λ (x : ReqId × OpenWrite). WriteOk w' x.0 x.1) (sym is) fresh
         | inr there ↦ old.writes i o there
       ];
       reads = old.reads;
-    })
-    (λ x h. let made = contains_from_map (outbound id (Write m)) ks x h in subst (λ (y : Outbound). BodyOk w' k y) made.2 (record { begun = begun; is = submission }))
-    begun tt
+    }
+
+write_bodies : (w' : Scene) (k : ℕ) (id : ReqId) (m : Mutation) (ks : List ℕ) → WasBegun w'.past id → submission_of w'.chronicle id ≡ Some m → (x : Outbound) → Contains (send_to id (Write m) ks) x → BodyOk w' k x
+write_bodies w' k id m ks begun submission x h = let made = contains_from_map (outbound id (Write m)) ks x h in subst (λ (y : Outbound). BodyOk w' k y) made.2 (record { begun = begun; is = submission })
+
+write_case : (c : Setting) (w : Scene) (k : ℕ) (lost : Bool) (ask : Ask) (s : NodeState) (d : DraftMutation) (l : Level) → Explains c w → slice_get w.nodes k ≡ Some s → MayTake w.past k s (Asks ask)
+    → let id : ReqId = record { node = k; time = s.risen } in
+    AreTold lost w.chronicle (Submitted id (mutation_of id d) ∷ []) → Explains c (next w k lost (Asks ask) s (effects_of (start_write c s.down id d)) (record s { writes = insert_entry request_cmp s.writes id (started_write l d) }))
+write_case c w k true ask s d l e at may told =
+    let id : ReqId = record { node = k; time = s.risen } in
+    let m = mutation_of id d in
+    let ks = alive_at c s.down d.partition in
+    let r = writing s id l d in
+    let o = with_one (send_to id (Write m) ks) (Submitted id m) in
+    let w' = quietly w k (Asks ask) s r o in
+    let g = quietly_grows w k (Asks ask) s r o at (λ p x h. h) in
+    let begun : WasBegun w'.past id = (deed_of k (Asks ask) s r o, contains_here _ w.past, (refl, refl, (ask, refl))) in
+    let submission : submission_of w'.chronicle id ≡ Some m = told (Submitted id m) (contains_here (Submitted id m) []) in
+    explains_quietly c w k (Asks ask) s r o e at (λ p x h. h) (write_node c w w' k s id l d (node_later c w k s e at w' g refl) begun submission) (write_bodies w' k id m ks begun submission)
+write_case c w k false ask s d l e at may told =
+    let id : ReqId = record { node = k; time = s.risen } in
+    let m = mutation_of id d in
+    let ks = alive_at c s.down d.partition in
+    let r = writing s id l d in
+    let sends = send_to id (Write m) ks in
+    let w' = telling w k (Asks ask) s r sends (Submitted id m) in
+    let new : WasBegun w.past id → ⊥ = λ b. may b.0 b.1 b.2 in
+    let g = telling_grows w k (Asks ask) s r sends (Submitted id m) at (λ p x h. h) new in
+    let begun : WasBegun w'.past id = (deed_of k (Asks ask) s r (with_one sends (Submitted id m)), contains_here _ w.past, (refl, refl, (ask, refl))) in
+    let submission : submission_of w'.chronicle id ≡ Some m = ap (λ (b : Bool). if b then Some m else submission_of w.chronicle id) (itself id) in
+    explains_telling c w k (Asks ask) s r sends (Submitted id m) e at (λ p x h. h) new (write_node c w w' k s id l d (node_later c w k s e at w' g refl) begun submission) (write_bodies w' k id m ks begun submission) tt tt
 
 -- ---- a read begins
 
-read_case : (c : Setting) (w : Scene) (k : ℕ) (ask : Ask) (s : NodeState) (q : Query) (l : Level) (v : Columns) → Explains c w → slice_get w.nodes k ≡ Some s → MayTake w.past k s (Asks ask)
-    → let id : ReqId = record { node = k; time = s.time } in
-    Explains c (next w k (Asks ask) s (effects_of (start_read c s.down id l q v)) (record s { reads = insert_entry request_cmp s.reads id (started_read l q) }))
-read_case c w k ask s q l v e at may =
-    let id : ReqId = record { node = k; time = s.time } in
-    let ks = alive_at c s.down q.partition in
-    let r : NodeState = record s { reads = insert_entry request_cmp s.reads id (started_read l q) } in
-    let w' = telling w k (Asks ask) s r (send_to id (Read q) ks) (Began id q l v) in
-    let new : WasBegun w.past id → ⊥ = λ b. may b.0 b.1 b.2 in
-    let g = telling_grows w k (Asks ask) s r (send_to id (Read q) ks) (Began id q l v) at (λ p x h. h) new in
-    let old = node_on c w w' g e s (e.nodes k s at) in
-    let begun : WasBegun w'.past id = (deed_of k (Asks ask) s r (effects_of (start_read c s.down id l q v)), contains_here _ w.past, (refl, refl, (ask, refl))) in
-    let only : (p : Query) (n : Level) (u : Columns) → Contains w'.chronicle (Began id p n u) → (p ≡ q) × (n ≡ l) =
-    λ p n u h. elim (contains_cases (Began id q l v) w.chronicle (Began id p n u) h) [
-      | inl here ↦ let is : Began id q l v ≡ Began id p n u = here in (cc, cc)
-      | inr there ↦ absurd (new (e.entries (Began id p n u) there))
-    ] in
-    let fresh : ReadOk w' id (started_read l q) = record {
+abbrev reading : NodeState → ReqId → Level → Query → NodeState
+reading s id l q = record s { reads = insert_entry request_cmp s.reads id (started_read l q) }
+
+-- whatever began under the id began with this
+abbrev BeganOnly : Scene → ReqId → Query → Level → Type 0
+BeganOnly w id q l = (p : Query) (n : Level) (u : Columns) → Contains w.chronicle (Began id p n u) → (p ≡ q) × (n ≡ l)
+
+read_node : (w' : Scene) (k : ℕ) (s : NodeState) (id : ReqId) (l : Level) (q : Query) → NodeOk w' k s → WasBegun w'.past id → BeganOnly w' id q l → HasStart w'.chronicle id ⊎ (w'.losing ≡ Some k) → NodeOk w' k (reading s id l q)
+read_node w' k s id l q old begun only start =
+    let fresh : ReadOk w' k id (started_read l q) = record {
       begun = begun;
-      start = (q, l, v, contains_here (Began id q l v) w.chronicle);
+      start = start;
       is = λ p n u h.
           let both = only p n u h in
           record {
@@ -163,30 +205,62 @@ read_case c w k ask s q l v e at may =
             sees = λ j there. absurd (contains_nil j there);
           };
     } in
-    explains_telling c w k (Asks ask) s r (send_to id (Read q) ks) (Began id q l v) e at (λ p x h. h) new
-    (record {
+    record {
       of = old.of;
       writes = old.writes;
       reads = λ i o h. elim (from_insert_entry request_cmp request_exact s.reads id (started_read l q) (i, o) h) [
-        | inl is ↦ subst (λ (x : ReqId × OpenRead). ReadOk w' x.0 x.1) (sym is) fresh
+        | inl is ↦ subst (λ (x : ReqId × OpenRead). ReadOk w' k x.0 x.1) (sym is) fresh
         | inr there ↦ old.reads i o there
       ];
-    })
-    (λ x h. let made = contains_from_map (outbound id (Read q)) ks x h in subst (λ (y : Outbound). BodyOk w' k y) made.2 (record { begun = begun; is = λ p n u there. (only p n u there).0 }))
-    begun tt
+    }
 
-begins_case : (c : Setting) (w : Scene) (k : ℕ) (ask : Ask) (p : Plan) (l : Level) (s s' : NodeState) (o : Effects) → Explains c w → slice_get w.nodes k ≡ Some s → MayTake w.past k s (Asks ask)
-    → Begins c (record { node = k; time = s.time }) p l s o s' → Explains c (next w k (Asks ask) s o s')
-begins_case c w k ask (plan.Write d) l s s' o e at may (is, same) =
-    subst (λ (x : Effects). Explains c (next w k (Asks ask) s x s')) (sym is)
-    (subst (λ (x : NodeState). Explains c (next w k (Asks ask) s (effects_of (start_write c s.down (record { node = k; time = s.time }) d)) x)) (sym same) (write_case c w k ask s d l e at may))
-begins_case c w k ask (plan.Read q v) l s s' o e at may (is, same) =
-    subst (λ (x : Effects). Explains c (next w k (Asks ask) s x s')) (sym is)
-    (subst (λ (x : NodeState). Explains c (next w k (Asks ask) s (effects_of (start_read c s.down (record { node = k; time = s.time }) l q v)) x)) (sym same) (read_case c w k ask s q l v e at may))
-begins_case c w k ask (plan.Use keyspace) l s s' o e at may (is, same) = used_case c w k (Asks ask) (record { node = k; time = s.time }) keyspace s s' o e at is same
-begins_case c w k ask (plan.Invalid fault) l s s' o e at may h = absurd h
+read_bodies : (w' : Scene) (k : ℕ) (id : ReqId) (l : Level) (q : Query) (ks : List ℕ) → WasBegun w'.past id → BeganOnly w' id q l → (x : Outbound) → Contains (send_to id (Read q) ks) x → BodyOk w' k x
+read_bodies w' k id l q ks begun only x h = let made = contains_from_map (outbound id (Read q)) ks x h in subst (λ (y : Outbound). BodyOk w' k y) made.2 (record { begun = begun; is = λ p n u there. (only p n u there).0 })
 
-pub asks_case : (c : Setting) (w : Scene) (k : ℕ) (ask : Ask) (r : Option Refusal) (s s' : NodeState) (o : Effects) → Explains c w → slice_get w.nodes k ≡ Some s → MayTake w.past k s (Asks ask)
-    → BeginsOrRefuses c (record { node = k; time = s.time }) ask.plan ask.level r s o s' → Explains c (next w k (Asks ask) s o s')
-asks_case c w k ask None s s' o e at may h = begins_case c w k ask ask.plan ask.level s s' o e at may h
-asks_case c w k ask (Some r) s s' o e at may (is, same) = refused_case c w k (Asks ask) (record { node = k; time = s.time }) r s s' o e at is same
+read_case : (c : Setting) (w : Scene) (k : ℕ) (lost : Bool) (ask : Ask) (s : NodeState) (q : Query) (l : Level) (v : Columns) → Explains c w → slice_get w.nodes k ≡ Some s → MayTake w.past k s (Asks ask) → w.losing ≡ loser lost k
+    → let id : ReqId = record { node = k; time = s.risen } in
+    Explains c (next w k lost (Asks ask) s (effects_of (start_read c s.down id l q v)) (record s { reads = insert_entry request_cmp s.reads id (started_read l q) }))
+read_case c w k true ask s q l v e at may losing =
+    let id : ReqId = record { node = k; time = s.risen } in
+    let ks = alive_at c s.down q.partition in
+    let r = reading s id l q in
+    let o = with_one (send_to id (Read q) ks) (Began id q l v) in
+    let w' = quietly w k (Asks ask) s r o in
+    let new : WasBegun w.past id → ⊥ = λ b. may b.0 b.1 b.2 in
+    let g = quietly_grows w k (Asks ask) s r o at (λ p x h. h) in
+    let begun : WasBegun w'.past id = (deed_of k (Asks ask) s r o, contains_here _ w.past, (refl, refl, (ask, refl))) in
+    let only : BeganOnly w' id q l = λ p n u h. absurd (new (e.entries (Began id p n u) h)) in
+    explains_quietly c w k (Asks ask) s r o e at (λ p x h. h) (read_node w' k s id l q (node_later c w k s e at w' g refl) begun only (inr losing)) (read_bodies w' k id l q ks begun only)
+read_case c w k false ask s q l v e at may losing =
+    let id : ReqId = record { node = k; time = s.risen } in
+    let ks = alive_at c s.down q.partition in
+    let r = reading s id l q in
+    let sends = send_to id (Read q) ks in
+    let w' = telling w k (Asks ask) s r sends (Began id q l v) in
+    let new : WasBegun w.past id → ⊥ = λ b. may b.0 b.1 b.2 in
+    let g = telling_grows w k (Asks ask) s r sends (Began id q l v) at (λ p x h. h) new in
+    let begun : WasBegun w'.past id = (deed_of k (Asks ask) s r (with_one sends (Began id q l v)), contains_here _ w.past, (refl, refl, (ask, refl))) in
+    let only : BeganOnly w' id q l =
+    λ p n u h. elim (contains_cases (Began id q l v) w.chronicle (Began id p n u) h) [
+      | inl here ↦ let is : Began id q l v ≡ Began id p n u = here in (cc, cc)
+      | inr there ↦ absurd (new (e.entries (Began id p n u) there))
+    ] in
+    explains_telling c w k (Asks ask) s r sends (Began id q l v) e at (λ p x h. h) new
+    (read_node w' k s id l q (node_later c w k s e at w' g refl) begun only (inl (q, l, v, contains_here (Began id q l v) w.chronicle))) (read_bodies w' k id l q ks begun only) begun tt
+
+begins_case : (c : Setting) (w : Scene) (k : ℕ) (lost : Bool) (ask : Ask) (p : Plan) (l : Level) (s s' : NodeState) (o : Effects) → Explains c w → slice_get w.nodes k ≡ Some s → MayTake w.past k s (Asks ask) → w.losing ≡ loser lost k
+    → AreTold lost w.chronicle o.entries → Begins c (record { node = k; time = s.risen }) p l s o s' → Explains c (next w k lost (Asks ask) s o s')
+begins_case c w k lost ask (plan.Write d) l s s' o e at may losing told (is, same) =
+    subst (λ (x : Effects). Explains c (next w k lost (Asks ask) s x s')) (sym is)
+    (subst (λ (x : NodeState). Explains c (next w k lost (Asks ask) s (effects_of (start_write c s.down (record { node = k; time = s.risen }) d)) x)) (sym same)
+    (write_case c w k lost ask s d l e at may (subst (λ (x : Effects). AreTold lost w.chronicle x.entries) is told)))
+begins_case c w k lost ask (plan.Read q v) l s s' o e at may losing told (is, same) =
+    subst (λ (x : Effects). Explains c (next w k lost (Asks ask) s x s')) (sym is)
+    (subst (λ (x : NodeState). Explains c (next w k lost (Asks ask) s (effects_of (start_read c s.down (record { node = k; time = s.risen }) l q v)) x)) (sym same) (read_case c w k lost ask s q l v e at may losing))
+begins_case c w k lost ask (plan.Use keyspace) l s s' o e at may losing told (is, same) = used_case c w k lost (Asks ask) (record { node = k; time = s.risen }) keyspace s s' o e at is same
+begins_case c w k lost ask (plan.Invalid fault) l s s' o e at may losing told h = absurd h
+
+pub asks_case : (c : Setting) (w : Scene) (k : ℕ) (lost : Bool) (ask : Ask) (r : Option Refusal) (s s' : NodeState) (o : Effects) → Explains c w → slice_get w.nodes k ≡ Some s → MayTake w.past k s (Asks ask) → w.losing ≡ loser lost k
+    → AreTold lost w.chronicle o.entries → BeginsOrRefuses c (record { node = k; time = s.risen }) ask.plan ask.level r s o s' → Explains c (next w k lost (Asks ask) s o s')
+asks_case c w k lost ask None s s' o e at may losing told h = begins_case c w k lost ask ask.plan ask.level s s' o e at may losing told h
+asks_case c w k lost ask (Some r) s s' o e at may losing told (is, same) = refused_case c w k lost (Asks ask) (record { node = k; time = s.risen }) r s s' o e at is same

@@ -16,12 +16,14 @@ use Rattle.changes.specs.Queries.{InQuery}
 use Rattle.peer_messages.specs.declared.message.Body.{Body}
 use Rattle.peer_messages.specs.declared.message.Body.TheVariants.{Write, WriteAck, Read, ReadReply}
 use Rattle.peer_messages.specs.declared.chronicle.Entry.{Entry}
-use Rattle.peer_messages.specs.declared.chronicle.Entry.TheVariants.{Asked, Submitted, Acked, Refused, Used, Began, Rows, Time, Turned}
+use Rattle.peer_messages.specs.declared.chronicle.Entry.TheVariants.{Asked, Submitted, Acked, Refused, Used, Began, Rows, Marks, Time, Turned, Tables, Stopped}
 use Rattle.peer_messages.specs.declared.outcome.Outbound.{Outbound}
 use Rattle.peer_messages.specs.declared.setting.Setting.{Setting}
 use Rattle.peer_messages.specs.Settings.{replicas_of, needed}
-use Rattle.node_steps.specs.State.{NodeState, OpenWrite, OpenRead, changes_of, Holds}
+use Rattle.durable_state.specs.State.{changes_of, Holds}
+use Rattle.node_steps.specs.State.{NodeState, OpenWrite, OpenRead}
 use Rattle.node_steps.specs.Acts.{Deed}
+use Rattle.node_steps.specs.Reads.{heard_by}
 use Rattle.cluster_runs.specs.Chronicle.{submission_of, StandsBefore}
 use Rattle.cluster_runs.specs.Trace.{Scene, IsAskAt}
 use Rattle.read_consistency.specs.ReadRight.{ReadRight, HasStart}
@@ -89,17 +91,19 @@ pub record ReadIs (w : Scene) (id : ReqId) (o : OpenRead) (q : Query) (l : Level
   pub query : q ≡ o.query
   pub level : l ≡ o.level
   pub answers : Answers w.chronicle q o.merged
-  pub sees : (j : ℕ) → Contains o.heard j → Sees w.chronicle id j q o.merged
+  pub sees : (j : ℕ) → Contains (heard_by o) j → Sees w.chronicle id j q o.merged
 
-pub record ReadOk (w : Scene) (id : ReqId) (o : OpenRead) : Type 0 where
+-- Of an open read of node k the start is in the chronicle, but for one that a lost move began: it is forgotten at the end of
+-- the load
+pub record ReadOk (w : Scene) (k : ℕ) (id : ReqId) (o : OpenRead) : Type 0 where
   pub begun : WasBegun w.past id
-  pub start : HasStart w.chronicle id
+  pub start : HasStart w.chronicle id ⊎ (w.losing ≡ Some k)
   pub is : (q : Query) (l : Level) (v : Columns) → Contains w.chronicle (Began id q l v) → ReadIs w id o q l
 
-pub record NodeOk (w : Scene) (s : NodeState) : Type 0 where
+pub record NodeOk (w : Scene) (k : ℕ) (s : NodeState) : Type 0 where
   pub of : (p : Partition) (x : Held) → Holds (changes_of s.content) p x → IsOf w.chronicle p (Reaches (changes_of s.content) p) x
   pub writes : (id : ReqId) (o : OpenWrite) → Contains s.writes (id, o) → WriteOk w id o
-  pub reads : (id : ReqId) (o : OpenRead) → Contains s.reads (id, o) → ReadOk w id o
+  pub reads : (id : ReqId) (o : OpenRead) → Contains s.reads (id, o) → ReadOk w k id o
 
 -- an acknowledged write was heard of by as many replicas as its level waits for, each of which has it
 pub record AckedOk (c : Setting) (w : Scene) (id : ReqId) (l : Level) (heard : List ℕ) : Type 0 where
@@ -109,17 +113,20 @@ pub record AckedOk (c : Setting) (w : Scene) (id : ReqId) (l : Level) (heard : L
 
 abbrev pub EntryOk : Setting → Scene → Entry → Type 0
 EntryOk c w (Acked id l heard) = AckedOk c w id l heard
-EntryOk c w (Submitted id m) = WasBegun w.past id
+EntryOk c w (Submitted id m) = Unit {0}
 EntryOk c w (Began id q l v) = WasBegun w.past id
 EntryOk c w (Used r keyspace) = Unit {0}
 EntryOk c w (Asked r) = Unit {0}
 EntryOk c w (Refused r refusal) = Unit {0}
 EntryOk c w (Rows r rows more grounds) = Unit {0}
+EntryOk c w (Marks k alive) = Unit {0}
 EntryOk c w (Time k t) = Unit {0}
 EntryOk c w (Turned k refusal) = Unit {0}
+EntryOk c w (Tables k n) = Unit {0}
+EntryOk c w (Stopped k) = Unit {0}
 
 pub record Explains (c : Setting) (w : Scene) : Type 0 where
-  pub nodes : (k : ℕ) (s : NodeState) → slice_get w.nodes k ≡ Some s → NodeOk w s
+  pub nodes : (k : ℕ) (s : NodeState) → slice_get w.nodes k ≡ Some s → NodeOk w k s
   pub bodies : (d : Deed) → Contains w.past d → (x : Outbound) → Contains d.effects.sends x → BodyOk w d.node x
   pub entries : (e : Entry) → Contains w.chronicle e → EntryOk c w e
   pub right : ReadRight c w.chronicle

@@ -1,7 +1,6 @@
 -- What is known stays known as a run goes on.
 use Rattle.std.proofs.Common.{◌≡◌, ℕ, ◌⊎◌, inl, inr, Bool, true, false, Option, Some, List, [], ◌∷◌, refl, sym, ap, subst, ◌∙◌, Contains}
-use Rattle.std.specs.Prelude.{slice_get, ◌==◌, ◌&&◌, if◌then◌else◌}
-use Rattle.std.proofs.lemmas.Bool.{eqb-true, eq-eqb}
+use Rattle.std.specs.Prelude.{slice_get, if◌then◌else◌}
 use Rattle.cs_base.specs.declared.ids.ReqId.{ReqId}
 use Rattle.cs_base.specs.declared.level.Level.{Level}
 use Rattle.cs_base.specs.Requests.{is_request}
@@ -11,17 +10,18 @@ use Rattle.changes.specs.declared.Mutation.{Mutation}
 use Rattle.changes.specs.declared.Query.{Query}
 use Rattle.statement_plan.specs.declared.plan.Columns.{Columns}
 use Rattle.cs_base.proofs.Members.{contains_cases, contains_here, contains_there}
-use Rattle.changes.proofs.Ranks.{request_made}
 use Rattle.peer_messages.specs.declared.message.Body.{Body}
 use Rattle.peer_messages.specs.declared.message.Body.TheVariants.{Write, WriteAck, Read, ReadReply}
 use Rattle.peer_messages.specs.declared.chronicle.Entry.{Entry}
-use Rattle.peer_messages.specs.declared.chronicle.Entry.TheVariants.{Asked, Submitted, Acked, Refused, Used, Began, Rows, Time, Turned}
+use Rattle.peer_messages.specs.declared.chronicle.Entry.TheVariants.{Asked, Submitted, Acked, Refused, Used, Began, Rows, Marks, Time, Turned, Tables, Stopped}
 use Rattle.peer_messages.specs.declared.outcome.Outbound.{Outbound}
 use Rattle.peer_messages.specs.declared.setting.Setting.{Setting}
-use Rattle.node_steps.specs.State.{NodeState, OpenWrite, OpenRead, changes_of}
+use Rattle.durable_state.specs.State.{changes_of}
+use Rattle.node_steps.specs.State.{NodeState, OpenWrite, OpenRead}
 use Rattle.node_steps.specs.Acts.{Deed}
 use Rattle.cluster_runs.specs.Chronicle.{submission_of, StandsBefore}
 use Rattle.cluster_runs.specs.Trace.{Scene}
+use Rattle.cluster_runs.proofs.Submissions.{same_request, is_not}
 use Rattle.read_consistency.proofs.Facts.{WasBegun, Reaches, HasAll, IsQueryOf, IsOf, Sees, Answers, ReplyOk, BodyIs, BodyOk, WriteOk, ReadOk, NodeOk, AckedOk, EntryOk, Explains}
 
 pub record Grows (w w' : Scene) : Type 0 where
@@ -88,10 +88,17 @@ write_on w w' g id o h = record {
   heard = λ j c. has_all_on w w' g j id h.begun (h.heard j c);
 }
 
-pub read_on : (c : Setting) (w w' : Scene) → Grows w w' → Explains c w → (id : ReqId) (o : OpenRead) → ReadOk w id o → ReadOk w' id o
-read_on c w w' g e id o h = record {
+-- a node whose moves are lost goes on to be that one
+abbrev pub StaysLosing : Scene → Scene → ℕ → Type 0
+StaysLosing w w' k = w.losing ≡ Some k → w'.losing ≡ Some k
+
+pub read_on : (c : Setting) (w w' : Scene) → Grows w w' → Explains c w → (k : ℕ) → StaysLosing w w' k → (id : ReqId) (o : OpenRead) → ReadOk w k id o → ReadOk w' k id o
+read_on c w w' g e k stays id o h = record {
   begun = begun_on w w' g id h.begun;
-  start = (h.start.0, h.start.1, h.start.2, g.chronicle _ h.start.3);
+  start = elim h.start [
+    | inl there ↦ inl (there.0, there.1, there.2, g.chronicle _ there.3)
+    | inr loses ↦ inr (stays loses)
+  ];
   is = λ q l v there.
       let old = h.is q l v (g.begins id q l v h.begun there) in
       record {
@@ -103,11 +110,11 @@ read_on c w w' g e id o h = record {
 }
 
 -- a node whose content stays, or reaches more
-pub node_on : (c : Setting) (w w' : Scene) → Grows w w' → Explains c w → (s : NodeState) → NodeOk w s → NodeOk w' s
-node_on c w w' g e s h = record {
+pub node_on : (c : Setting) (w w' : Scene) → Grows w w' → Explains c w → (k : ℕ) → StaysLosing w w' k → (s : NodeState) → NodeOk w k s → NodeOk w' k s
+node_on c w w' g e k stays s h = record {
   of = λ p x c. of_on w w' g p _ _ x (λ y r. r) (h.of p x c);
   writes = λ id o c. write_on w w' g id o (h.writes id o c);
-  reads = λ id o there. read_on c w w' g e id o (h.reads id o there);
+  reads = λ id o there. read_on c w w' g e k stays id o (h.reads id o there);
 }
 
 acked_on : (c : Setting) (w w' : Scene) → Grows w w' → (id : ReqId) (l : Level) (heard : List ℕ) → AckedOk c w id l heard → AckedOk c w' id l heard
@@ -119,14 +126,17 @@ acked_on c w w' g id l heard h = record {
 
 pub entry_on : (c : Setting) (w w' : Scene) → Grows w w' → (e : Entry) → EntryOk c w e → EntryOk c w' e
 entry_on c w w' g (Acked id l heard) h = acked_on c w w' g id l heard h
-entry_on c w w' g (Submitted id m) h = begun_on w w' g id h
+entry_on c w w' g (Submitted id m) h = tt
 entry_on c w w' g (Began id q l v) h = begun_on w w' g id h
 entry_on c w w' g (Used r keyspace) h = tt
 entry_on c w w' g (Asked r) h = tt
 entry_on c w w' g (Refused r refusal) h = tt
 entry_on c w w' g (Rows r rows more grounds) h = tt
+entry_on c w w' g (Marks k alive) h = tt
 entry_on c w w' g (Time k t) h = tt
 entry_on c w w' g (Turned k refusal) h = tt
+entry_on c w w' g (Tables k n) h = tt
+entry_on c w w' g (Stopped k) h = tt
 
 -- ---- one entry more
 
@@ -139,24 +149,11 @@ IsNew past (Acked id l heard) = Unit {0}
 IsNew past (Asked r) = Unit {0}
 IsNew past (Refused r refusal) = Unit {0}
 IsNew past (Rows r rows more grounds) = Unit {0}
+IsNew past (Marks k alive) = Unit {0}
 IsNew past (Time k t) = Unit {0}
 IsNew past (Turned k refusal) = Unit {0}
-
-both_true : (a b : Bool) → (a && b) ≡ true → (a ≡ true) × (b ≡ true)
-both_true true b h = (refl, h)
-both_true false b h = cc
-
-pub same_request : (a b : ReqId) → is_request a b ≡ true → a ≡ b
-same_request a b h =
-    let both = both_true (a.node == b.node) (a.time == b.time) h in
-    request_made (eqb-true a.node b.node both.0) (eqb-true a.time b.time both.1)
-
-pub itself : (a : ReqId) → is_request a a ≡ true
-itself a = ap (λ (b : Bool). b && (a.time == a.time)) (eq-eqb a.node a.node refl) ∙ eq-eqb a.time a.time refl
-
-is_not : (b : Bool) → (b ≡ true → ⊥) → b ≡ false
-is_not true h = absurd (h refl)
-is_not false h = refl
+IsNew past (Tables k n) = Unit {0}
+IsNew past (Stopped k) = Unit {0}
 
 pub submission_kept : (past : List Deed) (e : Entry) (es : List Entry) (id : ReqId) → IsNew past e → WasBegun past id → submission_of (e ∷ es) id ≡ submission_of es id
 submission_kept past (Submitted r m) es id new begun =
@@ -167,8 +164,11 @@ submission_kept past (Acked r l heard) es id new begun = refl
 submission_kept past (Asked r) es id new begun = refl
 submission_kept past (Refused r refusal) es id new begun = refl
 submission_kept past (Rows r rows more grounds) es id new begun = refl
+submission_kept past (Marks k alive) es id new begun = refl
 submission_kept past (Time k t) es id new begun = refl
 submission_kept past (Turned k refusal) es id new begun = refl
+submission_kept past (Tables k n) es id new begun = refl
+submission_kept past (Stopped k) es id new begun = refl
 
 pub start_kept : (past : List Deed) (x : Entry) (es : List Entry) (id : ReqId) (e : Entry) → IsNew past x → WasBegun past id → StandsBefore (x ∷ es) id e → StandsBefore es id e
 start_kept past x es id e new begun (inr h) = h
@@ -179,8 +179,11 @@ start_kept past (Acked r l heard) es id e new begun (inl h) = absurd h.0
 start_kept past (Asked r) es id e new begun (inl h) = absurd h.0
 start_kept past (Refused r refusal) es id e new begun (inl h) = absurd h.0
 start_kept past (Rows r rows more grounds) es id e new begun (inl h) = absurd h.0
+start_kept past (Marks k alive) es id e new begun (inl h) = absurd h.0
 start_kept past (Time k t) es id e new begun (inl h) = absurd h.0
 start_kept past (Turned k refusal) es id e new begun (inl h) = absurd h.0
+start_kept past (Tables k n) es id e new begun (inl h) = absurd h.0
+start_kept past (Stopped k) es id e new begun (inl h) = absurd h.0
 
 pub began_kept : (past : List Deed) (x : Entry) (es : List Entry) (id : ReqId) (q : Query) (l : Level) (v : Columns) → IsNew past x → WasBegun past id → Contains (x ∷ es) (Began id q l v) → Contains es (Began id q l v)
 began_kept past x es id q l v new begun h = elim (contains_cases x es (Began id q l v) h) [
@@ -205,5 +208,8 @@ submission_in (Acked r l heard ∷ es) id m h = contains_there (Acked r l heard)
 submission_in (Asked r ∷ es) id m h = contains_there (Asked r) es _ (submission_in es id m h)
 submission_in (Refused r refusal ∷ es) id m h = contains_there (Refused r refusal) es _ (submission_in es id m h)
 submission_in (Rows r rows more grounds ∷ es) id m h = contains_there (Rows r rows more grounds) es _ (submission_in es id m h)
+submission_in (Marks k alive ∷ es) id m h = contains_there (Marks k alive) es _ (submission_in es id m h)
 submission_in (Time k t ∷ es) id m h = contains_there (Time k t) es _ (submission_in es id m h)
 submission_in (Turned k refusal ∷ es) id m h = contains_there (Turned k refusal) es _ (submission_in es id m h)
+submission_in (Tables k n ∷ es) id m h = contains_there (Tables k n) es _ (submission_in es id m h)
+submission_in (Stopped k ∷ es) id m h = contains_there (Stopped k) es _ (submission_in es id m h)

@@ -16,7 +16,7 @@ use Rattle.changes.specs.Contents.{IsReachedBy}
 use Rattle.changes.specs.Queries.{InQuery}
 use Rattle.changes.specs.Shown.{IsShown}
 use Rattle.peer_messages.specs.declared.chronicle.Entry.{Entry}
-use Rattle.peer_messages.specs.declared.chronicle.Entry.TheVariants.{Asked, Submitted, Acked, Refused, Used, Began, Rows, Time, Turned}
+use Rattle.peer_messages.specs.declared.chronicle.Entry.TheVariants.{Asked, Submitted, Acked, Refused, Used, Began, Rows, Marks, Time, Turned, Tables, Stopped}
 use Rattle.peer_messages.specs.declared.setting.Setting.{Setting}
 use Rattle.peer_messages.specs.Settings.{replicas_of, needed}
 use Rattle.cluster_runs.specs.Chronicle.{submission_of, StandsBefore}
@@ -67,8 +67,11 @@ IsRightEntry c earlier (Acked r l heard) = Unit {0}
 IsRightEntry c earlier (Refused r refusal) = Unit {0}
 IsRightEntry c earlier (Used r keyspace) = Unit {0}
 IsRightEntry c earlier (Began r q l columns) = Unit {0}
+IsRightEntry c earlier (Marks k alive) = Unit {0}
 IsRightEntry c earlier (Time k t) = Unit {0}
 IsRightEntry c earlier (Turned k refusal) = Unit {0}
+IsRightEntry c earlier (Tables k n) = Unit {0}
+IsRightEntry c earlier (Stopped k) = Unit {0}
 
 -- each answer of a chronicle, newest first, has its start before it and is right
 abbrev pub ReadRight : Setting → List Entry → Type 0

@@ -1,55 +1,64 @@
--- A reply that the read can use, with the read that it leaves.
-use Rattle.std.proofs.Common.{◌≡◌, inl, inr, ℕ, Bool, true, false, List, [], ◌∷◌, ◌++◌, Contains, sym, ap, subst}
-use Rattle.std.specs.Prelude.{MatchBool, nat_lt}
-use Rattle.cs_base.specs.declared.ids.ReqId.{ReqId}
-use Rattle.cs_base.specs.Quorums.{heard_of}
+-- Replies to a read, and what one more makes of their merge.
+use Rattle.std.proofs.Common.{◌≡◌, ◌⊎◌, inl, inr, ℕ, Bool, ◌||◌, refl, sym, ap, subst, List, [], ◌∷◌, ◌++◌, map, Contains}
+use Rattle.std.specs.Prelude.{◌==◌, Option, Some, None, IsSome, ◌≢◌}
+use Rattle.std.proofs.lemmas.Bool.{false≢true}
+use Rattle.cs_base.specs.Quorums.{is_in}
+use Rattle.cs_base.proofs.Members.{contains_nil}
 use Rattle.changes.specs.declared.Held.{Held}
 use Rattle.changes.specs.Contents.{Either, IsMergeOf}
-use Rattle.peer_messages.specs.declared.outcome.Move.{Move}
-use Rattle.peer_messages.specs.declared.setting.Setting.{Setting}
-use Rattle.peer_messages.specs.Settings.{replicas_of, needed}
-use Rattle.peer_messages.specs.Moves.{quiet}
-use Rattle.node_steps.specs.State.{OpenRead}
-use Rattle.node_steps.specs.Reads.{is_stray, TellsRows, IsMergedInOrder, CountsReply, MergesReply, HearsReply}
+use Rattle.cell_merge.specs.Settled.{IsSettled}
+use Rattle.node_steps.specs.State.{OpenRead, Replied}
+use Rattle.node_steps.specs.Reads.{replied_from, IsMergedInOrder}
+use Rattle.read_coord.specs.Keeping.{is_among, replies_with, Keeps}
+use Rattle.read_coord.specs.Merges.{merged_of}
 
-when_true : (b : Bool) (P Q : Type 0) → b ≡ true → P → MatchBool b P Q
-when_true b P Q test p = subst (λ (v : Bool). MatchBool v P Q) (sym test) p
+pub among_those : (xs : List Replied) (k : ℕ) → is_among xs k ≡ is_in (map replied_from xs) k
+among_those [] k = refl
+among_those (x ∷ xs) k = ap (λ (b : Bool). (x.from == k) || b) (among_those xs k)
 
-when_false : (b : Bool) (P Q : Type 0) → b ≡ false → Q → MatchBool b P Q
-when_false b P Q test q = subst (λ (v : Bool). MatchBool v P Q) (sym test) q
+pub first_stays : (own : Option (List Held)) (xs : List Replied) (x : Replied) → IsSome own ⊎ (xs ≢ []) → merged_of own (xs ++ x ∷ []) ≡ merged_of own xs
+first_stays (Some m) xs x there = refl
+first_stays None [] x (inl some) = absurd (false≢true some)
+first_stays None [] x (inr some) = absurd (some refl)
+first_stays None (y ∷ xs) x there = refl
+
+-- ---- merges
 
 turned : (S T : Held → Type 0) (x : Held) → Either S T x → Either T S x
 turned S T x (inl s) = inr s
 turned S T x (inr t) = inl t
 
-merge_turned : (merged a b : List Held) → IsMergeOf merged a b → IsMergeOf merged b a
+pub merge_turned : (merged a b : List Held) → IsMergeOf merged a b → IsMergeOf merged b a
 merge_turned merged a b m = record {
   within = λ x kept. turned (Contains a) (Contains b) x (m.within x kept);
   reached = λ x either. m.reached x (turned (Contains b) (Contains a) x either);
   apart = m.apart;
 }
 
-merges : (c : Setting) (id : ReqId) (from : ℕ) (content : List Held) (r : OpenRead) (heard : List ℕ) (merged : List Held) (turn : Move) (r' : OpenRead)
-    → is_stray c from r ≡ false → heard ≡ r.heard ++ from ∷ [] → IsMergedInOrder merged content r.merged → CountsReply c id (record r { heard = heard; merged = merged }) turn r'
-    → HearsReply c id from content r turn r'
-merges c id from content r heard merged turn r' stray is merge counts =
-    when_false (is_stray c from r) ((turn ≡ quiet) × (r' ≡ r)) (MergesReply c id from content r turn r') stray
-    (record r { heard = heard; merged = merged }, ap (λ (h : List ℕ). record r { heard = h; merged = merged }) is, (merge_turned merged content r.merged merge.0, merge.1), counts)
+of_both : (a m : List Held) (x : Held) → ((x : Held) → Contains a x → Contains m x) → Either (Contains a) (Contains m) x → Contains m x
+of_both a m x part (inl of_a) = part x of_a
+of_both a m x part (inr of_m) = of_m
 
-pub reply_waits : (c : Setting) (id : ReqId) (from : ℕ) (content : List Held) (r : OpenRead) (heard : List ℕ) (merged : List Held) (turn : Move) (r' : OpenRead)
-    → is_stray c from r ≡ false → heard ≡ r.heard ++ from ∷ [] → IsMergedInOrder merged content r.merged
-    → nat_lt (heard_of (replicas_of c r.query.partition) heard) (needed c r.level r.query.partition) ≡ true → turn ≡ quiet → r' ≡ record r { heard = heard; merged = merged }
-    → HearsReply c id from content r turn r'
-reply_waits c id from content r heard merged turn r' stray is merge few none left =
-    let next : OpenRead = record r { heard = heard; merged = merged } in
-    merges c id from content r heard merged turn r' stray is merge
-    (when_true (nat_lt (heard_of (replicas_of c r.query.partition) heard) (needed c r.level r.query.partition)) ((turn ≡ quiet) × (r' ≡ next)) (TellsRows id next turn) few (none, left))
+-- what has all of the other is the merge
+merge_of_part : (a m : List Held) → IsSettled m → ((x : Held) → Contains a x → Contains m x) → IsMergedInOrder m a m
+merge_of_part a m settled part =
+    (record { within = λ x kept. inr kept; reached = λ x either. inl (of_both a m x part either); apart = settled.apart }, settled.ordered)
 
-pub reply_answers : (c : Setting) (id : ReqId) (from : ℕ) (content : List Held) (r : OpenRead) (heard : List ℕ) (merged : List Held) (turn : Move) (r' : OpenRead)
-    → is_stray c from r ≡ false → heard ≡ r.heard ++ from ∷ [] → IsMergedInOrder merged content r.merged
-    → nat_lt (heard_of (replicas_of c r.query.partition) heard) (needed c r.level r.query.partition) ≡ false → TellsRows id (record r { heard = heard; merged = merged }) turn
-    → HearsReply c id from content r turn r'
-reply_answers c id from content r heard merged turn r' stray is merge enough tells =
-    let next : OpenRead = record r { heard = heard; merged = merged } in
-    merges c id from content r heard merged turn r' stray is merge
-    (when_false (nat_lt (heard_of (replicas_of c r.query.partition) heard) (needed c r.level r.query.partition)) ((turn ≡ quiet) × (r' ≡ next)) (TellsRows id next turn) enough tells)
+pub merge_of_none : (a m : List Held) → a ≡ [] → IsSettled m → IsMergedInOrder m a m
+merge_of_none a m none settled = merge_of_part a m settled (λ x of_a. subst (λ (l : List Held). Contains l x → Contains m x) (sym none) (λ nowhere. absurd (contains_nil x nowhere)) of_a)
+
+pub merge_of_same : (a m : List Held) → a ≡ m → IsSettled m → IsMergedInOrder m a m
+merge_of_same a m same settled = merge_of_part a m settled (λ x of_a. subst (λ (l : List Held). Contains l x) same of_a)
+
+-- ---- a reply that is kept
+
+pub keeps_same : (from : ℕ) (content : List Held) (r next : OpenRead) → next ≡ record r { replies = replies_with r from content } → r.merged ≡ content → IsSettled content
+    → Keeps from content r next
+keeps_same from content r next is same settled =
+    subst (λ (n : OpenRead). Keeps from content r n) (sym is)
+    (record { next_is = refl; merge = subst (λ (m : List Held). IsMergedInOrder m m content) (sym same) (merge_of_same content content refl settled) })
+
+pub keeps_first : (from : ℕ) (content : List Held) (r next : OpenRead) → next ≡ record r { replies = replies_with r from content; merged = content } → r.merged ≡ [] → IsSettled content
+    → Keeps from content r next
+keeps_first from content r next is none settled =
+    subst (λ (n : OpenRead). Keeps from content r n) (sym is) (record { next_is = refl; merge = merge_of_none r.merged content none settled })

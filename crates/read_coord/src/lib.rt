@@ -3,49 +3,92 @@
 //! After Cassandra's documentation, "Dynamo: Tunable Consistency".
 #![tactic(auto)]
 
-ghost use Rattle.std.specs.Prelude.{◌≡◌, nat_lt, IfOk, OnErr, Contains};
-ghost use Rattle.cs_base.specs.Quorums.{heard_of as heard_of_count};
-ghost use Rattle.changes.specs.Contents.{IsMergeOf};
+ghost use Rattle.std.specs.Prelude.{◌≡◌, ◌||◌, ◌∷◌, ◌++◌, [], not, nat_lt, map, IsTrue, IfOk, OnOk, OnErr};
+ghost use Rattle.cs_base.specs.Quorums.{is_in as is_in_of, heard_of as heard_of_count};
+ghost use Rattle.peer_messages.specs.Settings.{up_of, replicas_of, needed};
 ghost use Rattle.peer_messages.specs.declared.message.Body.TheVariants.{Read};
-ghost use Rattle.peer_messages.specs.Settings.{replicas_of, needed};
 ghost use Rattle.node_steps.specs.Effects.{outbound, send_to};
-ghost use Rattle.node_steps.specs.Reads.{start_read, started_read, is_stray, TellsRows, CountsReply, HearsReply, read_at};
+ghost use Rattle.read_coord.specs.Keeping.{is_among};
+ghost use Rattle.node_steps.specs.Reads.{start_read, started_read, heard_by, replied_from, IsMergedInOrder, HearsReply, read_at};
 
 use cell_merge::Content;
 use changes::Query;
 use cs_base::{Items, Level, Micros, NodeId, ReqId};
 use peer_messages::{
-    Body, Entry, Grounds, Move, NodeIds, Outbound, Refusal, Sends, Setting, copy_nodes, heard_of,
-    is_before_deadline, is_in, nodes_up,
+    Body, Entries, Entry, Grounds, Move, NodeIds, Outbound, Refusal, Sends, Setting,
+    is_before_deadline, is_in,
 };
 use row_select::shown;
 use statement_plan::Columns;
 use std::alloc::{AllocError, Global};
 use std::marker::Model;
 
-/// A read that its coordinator has not answered: its level, its query, the replicas that replied, and the merge of their
-/// replies.
+/// What a replica replied.
+#[derive(Drop)]
+struct Reply {
+    from: NodeId,
+    content: Content,
+}
+
+impl Model for Reply {
+    ghost use Rattle.node_steps.specs.State.{Replied};
+
+    ghost Value = { Replied };
+
+    ghost view = { λ a. record { from = a.from; content = a.content } };
+}
+
+/// A read that its coordinator has not answered: its level, its query, the replies of replicas in the order in which they
+/// came, and their merge.
 #[derive(Drop)]
 pub struct ReadCoord {
     level: Level,
     query: Query,
-    heard: NodeIds,
-    merged: Content,
-}
-
-/// The replicas that replied, with the merge of their replies.
-#[derive(Drop)]
-struct Gathered {
-    heard: NodeIds,
-    merged: Content,
+    replies: Vec<Reply>,
+    /// None where it is the first reply's content.
+    merged: Option<Content>,
 }
 
 impl Model for ReadCoord {
+    ghost use Rattle.std.specs.Prelude.{◌≢◌, ◌⊎◌, [], IsSome};
     ghost use Rattle.node_steps.specs.State.{OpenRead};
+    ghost use Rattle.read_coord.specs.Merges.{merged_of};
 
     ghost Value = { OpenRead };
 
-    ghost view = { λ a. record { level = a.level; query = a.query; heard = a.heard; merged = a.merged } };
+    ghost view = { λ a. record { level = a.level; query = a.query; replies = a.replies.items; merged = merged_of a.merged a.replies.items } };
+
+    ghost invariant = { λ a. IsSome a.merged ⊎ (a.replies.items ≢ []) };
+}
+
+impl Reply {
+    fn copy(&self, alloc: Global) -> Result<Reply, AllocError>
+        ensures { IfOk result (λ reply. reply ≡ self.now) }
+    {
+        Ok(Reply {
+            from: self.from,
+            content: self.content.copy(alloc)?,
+        })
+    }
+}
+
+fn copy_replies(alloc: Global, replies: &[Reply]) -> Result<Vec<Reply>, AllocError>
+    ensures { IfOk result (λ copies. copies.items ≡ replies.now) }
+{
+    let mut copies = Vec::with_capacity(alloc, replies.len())?;
+    for reply in replies {
+        copies.push(reply.copy(alloc)?)?;
+    }
+    Ok(copies)
+}
+
+fn copy_merged(alloc: Global, merged: &Option<Content>) -> Result<Option<Content>, AllocError>
+    ensures { IfOk result (λ copy. copy ≡ merged.now) }
+{
+    match merged {
+        Some(merged) => Ok(Some(merged.copy(alloc)?)),
+        None => Ok(None),
+    }
 }
 
 fn ask(alloc: Global, request: ReqId, query: &Query, node: NodeId) -> Result<Outbound, AllocError>
@@ -59,19 +102,58 @@ fn ask(alloc: Global, request: ReqId, query: &Query, node: NodeId) -> Result<Out
     })
 }
 
+/// The query to each of the nodes that is not marked down.
 fn ask_all(
     alloc: Global,
     request: ReqId,
     query: &Query,
     nodes: &[NodeId],
+    down: &[NodeId],
 ) -> Result<Sends, AllocError>
-    ensures { IfOk result (λ sends. sends ≡ send_to request (Read query.now) nodes.now) }
+    ensures { IfOk result (λ sends. sends ≡ send_to request (Read query.now) (up_of down.now nodes.now)) }
 {
     let mut sends = Items::new(alloc);
     for node in nodes {
-        sends.push(ask(alloc, request, query, *node)?)?;
+        if !is_in(down, *node) {
+            sends.push(ask(alloc, request, query, *node)?)?;
+        }
     }
     Ok(sends)
+}
+
+fn entered(alloc: Global, entry: Entry) -> Result<Entries, AllocError>
+    ensures { IfOk result (λ entries. entries ≡ entry ∷ []) }
+{
+    let mut entries = Items::new(alloc);
+    entries.push(entry)?;
+    Ok(entries)
+}
+
+/// Whether the node is among those that replied.
+fn is_among(replies: &[Reply], node: NodeId) -> bool
+    ensures { result ≡ is_among replies.now node }
+{
+    replies.iter().any(|reply| reply.from == node)
+}
+
+/// The nodes that replied, in order.
+fn repliers(alloc: Global, replies: &[Reply]) -> Result<NodeIds, AllocError>
+    ensures { IfOk result (λ nodes. nodes ≡ map replied_from replies.now) }
+{
+    let mut nodes = Items::new(alloc);
+    for reply in replies {
+        nodes.push(reply.from)?;
+    }
+    Ok(nodes)
+}
+
+/// The merge of replies, of which the first is copied.
+fn merge_of(alloc: Global, merged: &Content, content: Content) -> Result<Content, AllocError>
+    ensures { IfOk result (λ merge. IsMergedInOrder merge merged.now content) }
+{
+    let before = merged.copy(alloc)?;
+    let merge = content.merge(alloc, before)?;
+    Ok(merge)
 }
 
 /// What begins a read: it is entered, and each replica that is not marked down is asked.
@@ -81,24 +163,22 @@ pub fn opening(
     down: &[NodeId],
     request: ReqId,
     level: Level,
-    query: &Query,
+    query: Query,
     columns: Columns,
 ) -> Result<Move, AllocError>
-    ensures { IfOk result (λ turn. turn ≡ start_read setting.now down.now request level query.now columns) }
+    ensures { IfOk result (λ turn. turn ≡ start_read setting.now down.now request level query columns) }
 {
     let replicas = setting.replicas(&query.partition);
-    let alive = nodes_up(alloc, replicas.as_slice(), down)?;
-    let mut entries = Items::new(alloc);
-    entries.push(Entry::Began(request, query.copy(alloc)?, level, columns))?;
+    let sends = ask_all(alloc, request, &query, replicas.as_slice(), down)?;
     Ok(Move {
-        sends: ask_all(alloc, request, query, alive.as_slice())?,
-        entries,
+        sends,
+        entries: entered(alloc, Entry::Began(request, query, level, columns))?,
         ended: false,
     })
 }
 
 impl ReadCoord {
-    ghost use Rattle.read_coord.specs.Gathering.{IsGathered};
+    ghost use Rattle.read_coord.specs.Keeping.{replies_with, Keeps, Answers};
 
     /// The read as it begins, with its [`opening`]: no replica has replied.
     pub fn start(alloc: Global, level: Level, query: &Query) -> Result<ReadCoord, AllocError>
@@ -107,56 +187,183 @@ impl ReadCoord {
         Ok(ReadCoord {
             level,
             query: query.copy(alloc)?,
-            heard: Items::new(alloc),
-            merged: Content::new(alloc),
+            replies: Vec::new(alloc),
+            merged: Some(Content::new(alloc)),
         })
     }
 
-    /// Whether a reply of the node is none that the read can use: of no replica, or of one that has replied.
-    fn is_stray(&self, setting: &Setting, from: NodeId) -> bool
-        ensures { result ≡ is_stray setting.now from self.now }
+    /// A copy of the read, which shares no memory with it.
+    pub fn copy(&self, alloc: Global) -> Result<ReadCoord, AllocError>
+        ensures { IfOk result (λ read. read ≡ self.now) }
     {
-        let replicas = setting.replicas(&self.query.partition);
-        is_in(self.heard.as_slice(), from) || !is_in(replicas.as_slice(), from)
+        Ok(ReadCoord {
+            level: self.level,
+            query: self.query.copy(alloc)?,
+            replies: copy_replies(alloc, &self.replies)?,
+            merged: copy_merged(alloc, &self.merged)?,
+        })
     }
 
-    /// Whether those heard of are too few.
-    fn waits(&self, setting: &Setting, heard: &NodeIds) -> bool
-        ensures { result ≡ nat_lt (heard_of_count (replicas_of setting.now self.now.query.partition) heard.now) (needed setting.now self.now.level self.now.query.partition) }
+    /// The merge of the replies.
+    fn merged(&self) -> &Content
+        ensures { result.now ≡ self.now.merged }
     {
-        let replicas = setting.replicas(&self.query.partition);
-        let needed = setting.needed(self.level, &self.query.partition);
-        heard_of(replicas.as_slice(), heard.as_slice()) < usize::from(needed)
+        match &self.merged {
+            Some(merged) => merged,
+            None => &self.replies[0].content,
+        }
     }
 
-    /// The answer that rests on these replies.
-    fn answer(&self, alloc: Global, request: ReqId, gathered: Gathered) -> Result<Move, AllocError>
-        ensures { IfOk result (λ turn. TellsRows request (record self.now { heard = gathered.heard; merged = gathered.merged }) turn) }
+    #[tactic(auto, using(crate::proofs::Replies::among_those))]
+    fn has_replied(&self, node: NodeId) -> bool
+        ensures { result ≡ is_in_of (heard_by self.now) node }
     {
-        let Gathered { heard, merged } = gathered;
+        is_among(&self.replies, node)
+    }
+
+    /// Whether the node has replied, where one more has.
+    fn is_heard(&self, from: NodeId, node: NodeId) -> bool
+        ensures { result ≡ is_in_of (heard_by self.now ++ from ∷ []) node }
+    {
+        self.has_replied(node) || from == node
+    }
+
+    /// How many of the replicas have replied, where one more has.
+    fn received_with(&self, replicas: &[NodeId], from: NodeId) -> usize
+        ensures { result ≡ heard_of_count replicas.now (heard_by self.now ++ from ∷ []) }
+    {
+        replicas
+            .iter()
+            .filter(|node| self.is_heard(from, **node))
+            .count()
+    }
+
+    /// The replicas that replied, where one more has.
+    fn heard_with(&self, alloc: Global, from: NodeId) -> Result<NodeIds, AllocError>
+        ensures { IfOk result (λ nodes. nodes ≡ heard_by self.now ++ from ∷ []) }
+    {
+        let mut nodes = repliers(alloc, &self.replies)?;
+        nodes.push(from)?;
+        Ok(nodes)
+    }
+
+    /// The merge with one more reply. Only one that changes the merge costs a copy of it.
+    #[tactic(auto, using(crate::proofs::Replies::merge_of_none, crate::proofs::Replies::merge_of_same))]
+    fn merged_with(&self, alloc: Global, content: Content) -> Result<Content, AllocError>
+        ensures { IfOk result (λ merged. IsMergedInOrder merged self.now.merged content) }
+    {
+        let merged = self.merged();
+        if merged.is_empty() {
+            return Ok(content);
+        }
+        if merged.is_same(&content) {
+            return Ok(content);
+        }
+        merge_of(alloc, merged, content)
+    }
+
+    /// The answer that rests on the replies and on this one.
+    fn answer(
+        &self,
+        alloc: Global,
+        request: ReqId,
+        from: NodeId,
+        content: Content,
+    ) -> Result<Move, AllocError>
+        ensures { IfOk result (λ turn. Answers request from content self.now turn) }
+    {
+        let merged = self.merged_with(alloc, content)?;
         let (rows, more) = shown(alloc, &merged, &self.query)?;
+        let heard = self.heard_with(alloc, from)?;
         Move::tells(
             alloc,
             Entry::Rows(request, rows, more, Grounds { heard, merged }),
         )
     }
 
-    /// Those heard of with one more, and the merge with its reply.
-    fn gather(&self, alloc: Global, from: NodeId, content: Content) -> Result<Gathered, AllocError>
-        ensures { IfOk result (IsGathered self.now from content) }
+    /// Puts a reply behind the others, which leaves the merge as it is.
+    #[tactic(auto, using(crate::proofs::Replies::first_stays))]
+    fn push(&mut self, from: NodeId, content: Content) -> Result<(), AllocError>
+        ensures ok { OnOk result (self.new ≡ record self.old { replies = replies_with self.old from content }) }
+        ensures err { OnErr result (self.new ≡ self.old) }
     {
-        let mut heard = copy_nodes(alloc, self.heard.as_slice())?;
-        heard.push(from)?;
-        let before = self.merged.copy(alloc)?;
-        let merged = content.merge(alloc, before)?;
-        Ok(Gathered { heard, merged })
+        self.replies.push(Reply { from, content })?;
+        Ok(())
     }
 
-    fn keep(&mut self, gathered: Gathered)
-        ensures { self.new ≡ record self.old { heard = gathered.heard; merged = gathered.merged } }
+    /// Puts the first reply there, whose content is the merge.
+    fn push_first(&mut self, from: NodeId, content: Content) -> Result<(), AllocError>
+        requires { self.old.replies ≡ [] }
+        ensures ok { OnOk result (self.new ≡ record self.old { replies = replies_with self.old from content; merged = content }) }
+        ensures err { OnErr result (self.new ≡ self.old) }
     {
-        self.heard = gathered.heard;
-        self.merged = gathered.merged;
+        self.replies.push(Reply { from, content })?;
+        self.merged = None;
+        Ok(())
+    }
+
+    /// Whether there is no reply, and so no merge.
+    fn is_new(&self) -> bool
+        ensures { IsTrue result → (self.now.replies ≡ []) × (self.now.merged ≡ []) }
+    {
+        self.replies.is_empty() && self.merged().is_empty()
+    }
+
+    /// Keeps a reply beside the others. An error leaves the read as it was.
+    #[tactic(auto, using(crate::proofs::Replies::keeps_same, crate::proofs::Replies::keeps_first))]
+    fn keep(&mut self, alloc: Global, from: NodeId, content: Content) -> Result<(), AllocError>
+        ensures ok { OnOk result (Keeps from content self.old self.new) }
+        ensures err { OnErr result (self.new ≡ self.old) }
+    {
+        if self.merged().is_same(&content) {
+            return self.push(from, content);
+        }
+        if self.is_new() {
+            return self.push_first(from, content);
+        }
+        let merged = self.merged_with(alloc, content.copy(alloc)?)?;
+        self.push(from, content)?;
+        self.merged = Some(merged);
+        Ok(())
+    }
+
+    /// Whether a reply of the node is none that the read can use: of no replica, or of one that has replied.
+    fn is_stray(&self, replicas: &[NodeId], from: NodeId) -> bool
+        ensures { result ≡ (is_in_of (heard_by self.now) from || not (is_in_of replicas.now from)) }
+    {
+        self.has_replied(from) || !is_in(replicas, from)
+    }
+
+    /// Whether the replies are too few, where one more is there.
+    fn waits(&self, setting: &Setting, replicas: &[NodeId], from: NodeId) -> bool
+        ensures { result ≡ nat_lt (heard_of_count replicas.now (heard_by self.now ++ from ∷ [])) (needed setting.now self.now.level self.now.query.partition) }
+    {
+        let needed = setting.needed(self.level, &self.query.partition);
+        self.received_with(replicas, from) < usize::from(needed)
+    }
+
+    #[tactic(auto, using(crate::proofs::Hearing::reply_strays))]
+    fn hear(
+        &mut self,
+        alloc: Global,
+        setting: &Setting,
+        replicas: &[NodeId],
+        request: ReqId,
+        from: NodeId,
+        content: Content,
+    ) -> Result<Move, AllocError>
+        requires { replicas.now ≡ replicas_of setting.now self.old.query.partition }
+        ensures ok { IfOk result (λ turn. HearsReply setting.now request from content self.old turn self.new) }
+        ensures err { OnErr result (self.new ≡ self.old) }
+    {
+        if self.is_stray(replicas, from) {
+            return Ok(Move::quiet(alloc));
+        }
+        if self.waits(setting, replicas, from) {
+            self.keep(alloc, from, content)?;
+            return Ok(Move::quiet(alloc));
+        }
+        self.answer(alloc, request, from, content)
     }
 
     /// Takes a node's reply to the request. That of a node that is no replica, and a repeated one, count for nothing.
@@ -172,24 +379,18 @@ impl ReadCoord {
         ensures ok { IfOk result (λ turn. HearsReply setting.now request from content self.old turn self.new) }
         ensures err { OnErr result (self.new ≡ self.old) }
     {
-        if self.is_stray(setting, from) {
-            return Ok(Move::quiet(alloc));
-        }
-        let gathered = self.gather(alloc, from, content)?;
-        if !self.waits(setting, &gathered.heard) {
-            return self.answer(alloc, request, gathered);
-        }
-        self.keep(gathered);
-        Ok(Move::quiet(alloc))
+        let replicas = setting.replicas(&self.query.partition);
+        self.hear(alloc, setting, replicas.as_slice(), request, from, content)
     }
 
-    /// How many replicas have replied.
-    fn received(&self, setting: &Setting) -> u8
-        ensures { result ≡ heard_of_count (replicas_of setting.now self.now.query.partition) self.now.heard }
+    /// How many of the replicas have replied.
+    fn received(&self, replicas: &[NodeId]) -> usize
+        ensures { result ≡ heard_of_count replicas.now (heard_by self.now) }
     {
-        let replicas = setting.replicas(&self.query.partition);
-        // no more than the replicas, which are seven at most
-        heard_of(replicas.as_slice(), self.heard.as_slice()).min(replicas.len()) as u8
+        replicas
+            .iter()
+            .filter(|node| self.has_replied(**node))
+            .count()
     }
 
     /// What the read is told at this time: nothing before its deadline, 5 seconds after its start, and from then on how
@@ -206,7 +407,9 @@ impl ReadCoord {
         if is_before_deadline(&request, time) {
             return Ok(Move::quiet(alloc));
         }
-        let received = self.received(setting);
+        let replicas = setting.replicas(&self.query.partition);
+        // no more than the replicas, which are seven at most
+        let received = self.received(replicas.as_slice()).min(replicas.len()) as u8;
         let blockfor = setting.needed(self.level, &self.query.partition);
         let refusal = Refusal::ReadTimeout {
             received,

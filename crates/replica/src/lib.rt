@@ -6,6 +6,7 @@ mod entries;
 mod error;
 mod kept;
 mod laws;
+mod mem_replica;
 mod merge;
 mod replica;
 
@@ -14,5 +15,6 @@ pub use entries::{arrive_at, purges_nothing};
 pub use error::{CallError, FinishError, LoadError, RoomError};
 pub use kept::{Kept, Partitions};
 pub use laws::crashes_leave_a_front;
+pub use mem_replica::MemReplica;
 pub use merge::{Graces, MergeDone, MergeJob, Purged, Purges};
 pub use replica::Replica;

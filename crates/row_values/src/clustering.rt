@@ -5,8 +5,8 @@ ghost use Rattle.row_values.specs.Fronts.{IsFrontOf, Adds};
 ghost use Rattle.row_values.specs.Values.{AreRead, clustering_columns};
 
 use crate::front::Front;
-use crate::kinds::is_clustering;
 use cql_values::{CqlType, CqlValue, OrderError, read_order};
+use key_restrictions::is_clustering;
 use schema_book::ColumnDef;
 use std::alloc::{AllocError, Global};
 

@@ -5,8 +5,8 @@ ghost use Rattle.row_values.specs.Keys.{part_length, first_part, behind_part};
 ghost use Rattle.row_values.specs.Values.{key_values, partition_columns, value_at};
 
 use crate::front::{Front, value_in};
-use crate::kinds::is_partition;
 use cql_values::{CqlType, CqlValue};
+use key_restrictions::is_partition;
 use schema_book::ColumnDef;
 use std::alloc::{AllocError, Global};
 

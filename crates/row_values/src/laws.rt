@@ -4,7 +4,7 @@ ghost use Rattle.row_values.specs.Laws.{KeysComeBack, ClusteringValuesComeBack, 
 
 use cql_values::{clustering_values_compare, order_bytes_keep_the_order};
 
-/// The parts of a key are those of which `key_restrictions::row_range` makes it.
+/// The parts of a key are those of which `key_restrictions::partition_of` makes it.
 pub fn keys_come_back()
     ensures { KeysComeBack }
 {}

@@ -7,7 +7,6 @@
 mod clustering;
 mod front;
 mod key;
-mod kinds;
 mod laws;
 mod others;
 mod print;

@@ -5,9 +5,9 @@ ghost use Rattle.std.specs.List.{find};
 ghost use Rattle.row_values.specs.Values.{cell_value as cell_value_of, other_values};
 
 use crate::front::value_in;
-use crate::kinds::is_key;
 use changes::ShownCell;
 use cql_values::{CqlType, CqlValue};
+use key_restrictions::is_key;
 use schema_book::ColumnDef;
 use std::alloc::{AllocError, Global};
 

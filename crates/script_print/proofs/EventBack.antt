@@ -8,6 +8,8 @@ use Rattle.std.proofs.lemmas.Bool.{and_from, and_parts, cond-true, cond-false, l
 use Rattle.std.proofs.lemmas.Str.{IsUtf8-append}
 use Rattle.std.proofs.Math.Seq.{take-append_seam, drop-append-add}
 use Rattle.cs_base.specs.declared.level.Level.{Level}
+use Rattle.cs_store.specs.declared.mem_file.Outcome.{Outcome}
+use Rattle.cs_store.specs.declared.mem_file.Outcome.TheVariants.{Kept, Lost, Torn}
 use Rattle.fault_script.specs.declared.script.ScriptEvent.{ScriptEvent}
 use Rattle.fault_script.specs.declared.script.ScriptEvent.TheVariants as event
 use Rattle.fault_script.specs.declared.script.PutRequest.{PutRequest}
@@ -16,13 +18,13 @@ use Rattle.fault_script.specs.declared.script.CqlRequest.{CqlRequest}
 use Rattle.fault_script.specs.declared.script.MessagePlace.{MessagePlace}
 use Rattle.fault_script.specs.declared.script.Fault.TheVariants as fault
 use Rattle.fault_script.specs.Lines as lines
-use Rattle.fault_script.specs.Lines.{understood, result_map, event_of_words, event_at, event_line, put_of, get_of, place_of, cql_of, cql_from, cql_behind, words_of, behind, first_word, node_of, level_of, long_of, number_within, is_number, is_signed_number, is_long, is_long_word, signed_value, is_text, is_space, is_skipped, without_spaces}
-use Rattle.script_print.specs.Printed.{level_name, line_of_words, put_line, get_line, cql_line, message_line, number_line}
+use Rattle.fault_script.specs.Lines.{understood, result_map, event_of_words, event_at, event_line, put_of, get_of, place_of, named_node, pair_of, named_pair, clock_at, crash_of, stop_of, fail_at, outcome_of, cql_of, cql_from, cql_behind, words_of, behind, first_word, node_of, level_of, long_of, number_within, is_number, is_signed_number, is_long, is_long_word, signed_value, is_text, is_space, is_skipped, without_spaces}
+use Rattle.script_print.specs.Printed.{level_name, outcome_name, line_of_words, put_line, get_line, cql_line, message_line, number_line, pair_line, crash_line, stop_line}
 use Rattle.script_print.specs.Printed as printed
 use Rattle.script_print.proofs.Bytes.{lacks, lacks_both, ascii_is_utf8, utf8_is_text}
 use Rattle.script_print.proofs.LineWords.{IsWord, AreWords, words_back, line_is_inline}
 use Rattle.script_print.proofs.NumberWords.{IsWithin, decimal_is_word, decimal_is_number, within_back, signed_is_word, signed_is_number, signed_back, level_is_word, level_back, plain_word}
-use Rattle.script_print.proofs.EventFacts.{IsNode, IsFitPut, IsFitGet, IsFitCql, IsFitPlace, IsFitEvent}
+use Rattle.script_print.proofs.EventFacts.{IsNode, IsFitPut, IsFitGet, IsFitCql, IsFitPlace, IsFitPair, IsFitEvent}
 
 -- ---- words
 
@@ -141,6 +143,121 @@ settle_back nodes count is most =
       read = refl;
     }
 
+-- ---- what happens to a node
+
+named_node_back : (nodes n : ℕ) → nodes ≤ 7 → IsNode nodes n → named_node nodes (decimal n) ≡ Ok n
+named_node_back nodes n few is =
+    ap (λ (t : Bool). understood fault.Line t (node_of nodes (decimal n))) (node_is_number nodes n few is) ∙ ap (understood fault.Line true) (node_back nodes n few is)
+
+pair_is_small : (most number : ℕ) → most < 2 ^ 64 → number ≤ most → number < 2 ^ 64
+pair_is_small most number small low = omega (arith, small, low)
+
+named_pair_back : (nodes least most node number : ℕ) → nodes ≤ 7 → most < 2 ^ 64 → IsFitPair nodes least most node number → named_pair nodes least most (decimal node) (decimal number) ≡ Ok (node, number)
+named_pair_back nodes least most node number few small is =
+    let low = pair_is_small most number small is.bounds.1 in
+    ap (λ (t : Bool). understood fault.Line t (pair_of (node_of nodes (decimal node)) (number_within least most (decimal number))))
+    (and_from (is_number (decimal node)) (is_number (decimal number)) (node_is_number nodes node few is.at) (decimal_is_number number low))
+    ∙ ap (λ (n : Option ℕ). understood fault.Line true (pair_of n (number_within least most (decimal number)))) (node_back nodes node few is.at)
+    ∙ ap (λ (n : Option ℕ). understood fault.Line true (pair_of (Some node) n)) (within_back least most number low is.bounds.0)
+
+pair_are_words : (nodes least most node number : ℕ) → nodes ≤ 7 → most < 2 ^ 64 → IsFitPair nodes least most node number → AreWords (decimal node ∷ decimal number ∷ [])
+pair_are_words nodes least most node number few small is =
+    (node_is_word nodes node few is.at, (decimal_is_word number (pair_is_small most number small is.bounds.1), tt))
+
+outcome_back : (o : Outcome) → outcome_of (outcome_name o) ≡ Some o
+outcome_back Kept = refl
+outcome_back Lost = refl
+outcome_back Torn = refl
+
+outcome_is_word : (o : Outcome) → IsWord (outcome_name o)
+outcome_is_word Kept = plain_word (codes "kept") refl
+outcome_is_word Lost = plain_word (codes "lost") refl
+outcome_is_word Torn = plain_word (codes "torn") refl
+
+clock_back : (nodes node micros : ℕ) → nodes ≤ 7 → IsFitPair nodes 0 (2 ^ 64 - 1) node micros → IsLineOf nodes (pair_line (codes "clock") node micros) (event.Clock node micros)
+clock_back nodes node micros few is =
+    let words : List (List ℕ) = decimal node ∷ decimal micros ∷ [] in
+    let small : 2 ^ 64 - 1 < 2 ^ 64 = omega arith in
+    let word : IsWord (codes "clock") = plain_word (codes "clock") refl in
+    let are = pair_are_words nodes 0 (2 ^ 64 - 1) node micros few small is in
+    record {
+      says = ap (event_of_words nodes) (words_back (codes "clock") words word are) ∙ ap (result_map clock_at) (named_pair_back nodes 0 (2 ^ 64 - 1) node micros few small is);
+      inline = line_is_inline (codes "clock") words word are;
+      read = refl;
+    }
+
+fail_back : (nodes node call : ℕ) → nodes ≤ 7 → IsFitPair nodes 1 4294967295 node call → IsLineOf nodes (pair_line (codes "failat") node call) (event.FailAt node call)
+fail_back nodes node call few is =
+    let words : List (List ℕ) = decimal node ∷ decimal call ∷ [] in
+    let small : 4294967295 < 2 ^ 64 = omega arith in
+    let word : IsWord (codes "failat") = plain_word (codes "failat") refl in
+    let are = pair_are_words nodes 1 4294967295 node call few small is in
+    record {
+      says = ap (event_of_words nodes) (words_back (codes "failat") words word are) ∙ ap (result_map fail_at) (named_pair_back nodes 1 4294967295 node call few small is);
+      inline = line_is_inline (codes "failat") words word are;
+      read = refl;
+    }
+
+crash_back : (nodes node : ℕ) (outcome : Outcome) → nodes ≤ 7 → IsNode nodes node → IsLineOf nodes (crash_line node outcome) (event.Crash node outcome)
+crash_back nodes node outcome few is =
+    let words : List (List ℕ) = decimal node ∷ outcome_name outcome ∷ [] in
+    let word : IsWord (codes "crash") = plain_word (codes "crash") refl in
+    let are : AreWords words = (node_is_word nodes node few is, (outcome_is_word outcome, tt)) in
+    record {
+      says = ap (event_of_words nodes) (words_back (codes "crash") words word are)
+          ∙ ap (λ (o : Option Outcome). crash_of o (named_node nodes (decimal node))) (outcome_back outcome)
+          ∙ ap (crash_of (Some outcome)) (named_node_back nodes node few is);
+      inline = line_is_inline (codes "crash") words word are;
+      read = refl;
+    }
+
+stop_back : (nodes node call : ℕ) (outcome : Outcome) → nodes ≤ 7 → IsFitPair nodes 1 4294967295 node call → IsLineOf nodes (stop_line node call outcome) (event.StopAt node call outcome)
+stop_back nodes node call outcome few is =
+    let words : List (List ℕ) = decimal node ∷ decimal call ∷ outcome_name outcome ∷ [] in
+    let small : 4294967295 < 2 ^ 64 = omega arith in
+    let word : IsWord (codes "stopat") = plain_word (codes "stopat") refl in
+    let are : AreWords words = (node_is_word nodes node few is.at, (decimal_is_word call (pair_is_small 4294967295 call small is.bounds.1), (outcome_is_word outcome, tt))) in
+    record {
+      says = ap (event_of_words nodes) (words_back (codes "stopat") words word are)
+          ∙ ap (λ (o : Option Outcome). stop_of o (named_pair nodes 1 4294967295 (decimal node) (decimal call))) (outcome_back outcome)
+          ∙ ap (stop_of (Some outcome)) (named_pair_back nodes 1 4294967295 node call few small is);
+      inline = line_is_inline (codes "stopat") words word are;
+      read = refl;
+    }
+
+node_words : (nodes node : ℕ) → nodes ≤ 7 → IsNode nodes node → AreWords (decimal node ∷ [])
+node_words nodes node few is = (node_is_word nodes node few is, tt)
+
+restart_back : (nodes node : ℕ) → nodes ≤ 7 → IsNode nodes node → IsLineOf nodes (number_line (codes "restart") node) (event.Restart node)
+restart_back nodes node few is =
+    let word : IsWord (codes "restart") = plain_word (codes "restart") refl in
+    let are = node_words nodes node few is in
+    record {
+      says = ap (event_of_words nodes) (words_back (codes "restart") (decimal node ∷ []) word are) ∙ ap (result_map event.Restart) (named_node_back nodes node few is);
+      inline = line_is_inline (codes "restart") (decimal node ∷ []) word are;
+      read = refl;
+    }
+
+flush_back : (nodes node : ℕ) → nodes ≤ 7 → IsNode nodes node → IsLineOf nodes (number_line (codes "flush") node) (event.Flush node)
+flush_back nodes node few is =
+    let word : IsWord (codes "flush") = plain_word (codes "flush") refl in
+    let are = node_words nodes node few is in
+    record {
+      says = ap (event_of_words nodes) (words_back (codes "flush") (decimal node ∷ []) word are) ∙ ap (result_map event.Flush) (named_node_back nodes node few is);
+      inline = line_is_inline (codes "flush") (decimal node ∷ []) word are;
+      read = refl;
+    }
+
+merge_back : (nodes node : ℕ) → nodes ≤ 7 → IsNode nodes node → IsLineOf nodes (number_line (codes "merge") node) (event.Merge node)
+merge_back nodes node few is =
+    let word : IsWord (codes "merge") = plain_word (codes "merge") refl in
+    let are = node_words nodes node few is in
+    record {
+      says = ap (event_of_words nodes) (words_back (codes "merge") (decimal node ∷ []) word are) ∙ ap (result_map event.Merge) (named_node_back nodes node few is);
+      inline = line_is_inline (codes "merge") (decimal node ∷ []) word are;
+      read = refl;
+    }
+
 -- ---- a statement
 
 place_behind : (word rest : List ℕ) → lacks 32 word ≡ true → position_or_len is_space (word ++ 32 ∷ rest) ≡ length word
@@ -201,3 +318,10 @@ event_back nodes (event.Cql request) few is = cql_back nodes request few is
 event_back nodes (event.Deliver place) few is = deliver_back nodes place few is
 event_back nodes (event.Drop place) few is = drop_back nodes place few is
 event_back nodes (event.Settle count) few is = settle_back nodes count is.0 is.1
+event_back nodes (event.Clock node micros) few is = clock_back nodes node micros few is
+event_back nodes (event.Crash node outcome) few is = crash_back nodes node outcome few is
+event_back nodes (event.StopAt node call outcome) few is = stop_back nodes node call outcome few is
+event_back nodes (event.FailAt node call) few is = fail_back nodes node call few is
+event_back nodes (event.Restart node) few is = restart_back nodes node few is
+event_back nodes (event.Flush node) few is = flush_back nodes node few is
+event_back nodes (event.Merge node) few is = merge_back nodes node few is

@@ -1,5 +1,5 @@
 -- What holds of the event that a line says: all that its printed line wants, to be read as the event.
-use Rattle.std.proofs.Common.{◌≡◌, ℕ, ◌+◌, ◌-◌, ◌^◌, ◌<◌, ◌≤◌, true, List, [], ◌∷◌, Option, Some, None, length, take, drop, get_or, ◌∙◌, ap, arith, IsUtf8, take-append-drop}
+use Rattle.std.proofs.Common.{◌≡◌, ℕ, ◌+◌, ◌-◌, ◌^◌, ◌<◌, ◌≤◌, true, List, [], ◌∷◌, Option, Some, None, Result, length, take, drop, get_or, ◌∙◌, ap, arith, IsUtf8, take-append-drop}
 use Rattle.std.specs.Prelude.{ℤ, ◌&&◌, codes, nat_lt, IfOk, IfSome}
 use Rattle.std.specs.Option.{option_map}
 use Rattle.std.specs.Str.{bytes_eq}
@@ -14,8 +14,10 @@ use Rattle.fault_script.specs.declared.script.PutRequest.{PutRequest}
 use Rattle.fault_script.specs.declared.script.GetRequest.{GetRequest}
 use Rattle.fault_script.specs.declared.script.CqlRequest.{CqlRequest}
 use Rattle.fault_script.specs.declared.script.MessagePlace.{MessagePlace}
+use Rattle.cs_store.specs.declared.mem_file.Outcome.{Outcome}
+use Rattle.fault_script.specs.declared.script.Fault.{Fault}
 use Rattle.fault_script.specs.declared.script.Fault.TheVariants as fault
-use Rattle.fault_script.specs.Lines.{put_line, put_of, get_line, get_of, message_line, place_of, settle_line, event_line, cql_of, cql_behind, cql_from, event_of_words, event_of, event_at, words_of, behind, first_word, node_of, level_of, long_of, number_within, is_number, is_signed_number, is_long, is_long_word, signed_value, is_text, is_space, without_spaces}
+use Rattle.fault_script.specs.Lines.{put_line, put_of, get_line, get_of, message_line, place_of, settle_line, named_node, pair_of, named_pair, node_line, pair_line, clock_at, crash_of, crash_line, stop_of, stop_line, fail_at, node_event, outcome_of, event_line, cql_of, cql_behind, cql_from, event_of_words, event_of, event_at, words_of, behind, first_word, node_of, level_of, long_of, number_within, is_number, is_signed_number, is_long, is_long_word, signed_value, is_text, is_space, without_spaces}
 use Rattle.script_print.proofs.Holding.{some_from, either_holds, some_where, understood_where, option_map_holds, result_map_holds}
 use Rattle.script_print.proofs.Bytes.{lacks, lacks_parts, lacks_without_spaces, text_is_utf8, utf8_without_spaces, without_spaces_again}
 use Rattle.script_print.proofs.LineWords.{IsWord, AreWords, words_are_words}
@@ -53,6 +55,11 @@ pub record IsFitPlace (nodes : ℕ) (place : MessagePlace) : Type 0 where
   pub upto : IsNode nodes place.upto
   pub number : IsWithin 0 (2 ^ 64 - 1) place.number × (place.number ≤ 2 ^ 64 - 1)
 
+-- a node, and a number within these bounds
+pub record IsFitPair (nodes least most node number : ℕ) : Type 0 where
+  pub at : IsNode nodes node
+  pub bounds : IsWithin least most number × (number ≤ most)
+
 abbrev pub IsFitEvent : ℕ → ScriptEvent → Type 0
 IsFitEvent nodes (event.Put put) = IsFitPut nodes put
 IsFitEvent nodes (event.Get get) = IsFitGet nodes get
@@ -60,6 +67,13 @@ IsFitEvent nodes (event.Cql request) = IsFitCql nodes request
 IsFitEvent nodes (event.Deliver place) = IsFitPlace nodes place
 IsFitEvent nodes (event.Drop place) = IsFitPlace nodes place
 IsFitEvent nodes (event.Settle count) = IsWithin 1 100000 count × (count ≤ 100000)
+IsFitEvent nodes (event.Clock node micros) = IsFitPair nodes 0 (2 ^ 64 - 1) node micros
+IsFitEvent nodes (event.Crash node outcome) = IsNode nodes node
+IsFitEvent nodes (event.StopAt node call outcome) = IsFitPair nodes 1 4294967295 node call
+IsFitEvent nodes (event.FailAt node call) = IsFitPair nodes 1 4294967295 node call
+IsFitEvent nodes (event.Restart node) = IsNode nodes node
+IsFitEvent nodes (event.Flush node) = IsNode nodes node
+IsFitEvent nodes (event.Merge node) = IsNode nodes node
 
 -- ---- words
 
@@ -126,6 +140,66 @@ settle_line_fits nodes (a ∷ []) =
     (λ _. option_map_holds (IsFitEvent nodes) event.Settle (number_within 1 100000 a) (number_fits 1 100000 a))
 settle_line_fits nodes (a ∷ b ∷ words) = tt
 
+-- ---- what happens to a node
+
+pair_of_fits : (nodes least most : ℕ) (node number : Option ℕ) → IfSome node (IsNode nodes) → IfSome number (λ n. IsWithin least most n × (n ≤ most)) → IfSome (pair_of node number) (λ p. IsFitPair nodes least most p.0 p.1)
+pair_of_fits nodes least most None number n m = tt
+pair_of_fits nodes least most (Some node) None n m = tt
+pair_of_fits nodes least most (Some node) (Some number) n m = record { at = n; bounds = m }
+
+named_node_fits : (nodes : ℕ) (word : List ℕ) → IfOk (named_node nodes word) (IsNode nodes)
+named_node_fits nodes word = understood_where (IsNode nodes) fault.Line (is_number word) (node_of nodes word) (λ _. node_fits nodes word)
+
+named_pair_fits : (nodes least most : ℕ) (node number : List ℕ) → IfOk (named_pair nodes least most node number) (λ p. IsFitPair nodes least most p.0 p.1)
+named_pair_fits nodes least most node number =
+    understood_where (λ (p : ℕ × ℕ). IsFitPair nodes least most p.0 p.1) fault.Line (is_number node && is_number number) (pair_of (node_of nodes node) (number_within least most number))
+    (λ _. pair_of_fits nodes least most (node_of nodes node) (number_within least most number) (node_fits nodes node) (number_fits least most number))
+
+node_line_fits : (nodes : ℕ) (words : List (List ℕ)) → IfOk (node_line nodes words) (IsNode nodes)
+node_line_fits nodes [] = tt
+node_line_fits nodes (a ∷ []) = named_node_fits nodes a
+node_line_fits nodes (a ∷ b ∷ words) = tt
+
+pair_line_fits : (nodes least most : ℕ) (words : List (List ℕ)) → IfOk (pair_line nodes least most words) (λ p. IsFitPair nodes least most p.0 p.1)
+pair_line_fits nodes least most [] = tt
+pair_line_fits nodes least most (a ∷ []) = tt
+pair_line_fits nodes least most (a ∷ b ∷ []) = named_pair_fits nodes least most a b
+pair_line_fits nodes least most (a ∷ b ∷ c ∷ words) = tt
+
+crash_of_fits : (nodes : ℕ) (outcome : Option Outcome) (node : Result ℕ Fault) → IfOk node (IsNode nodes) → IfOk (crash_of outcome node) (IsFitEvent nodes)
+crash_of_fits nodes None node is = tt
+crash_of_fits nodes (Some outcome) node is = result_map_holds (IsFitEvent nodes) (λ n. event.Crash n outcome) node is
+
+crash_line_fits : (nodes : ℕ) (words : List (List ℕ)) → IfOk (crash_line nodes words) (IsFitEvent nodes)
+crash_line_fits nodes [] = tt
+crash_line_fits nodes (a ∷ []) = tt
+crash_line_fits nodes (a ∷ b ∷ []) = crash_of_fits nodes (outcome_of b) (named_node nodes a) (named_node_fits nodes a)
+crash_line_fits nodes (a ∷ b ∷ c ∷ words) = tt
+
+stop_of_fits : (nodes : ℕ) (outcome : Option Outcome) (pair : Result (ℕ × ℕ) Fault) → IfOk pair (λ p. IsFitPair nodes 1 4294967295 p.0 p.1) → IfOk (stop_of outcome pair) (IsFitEvent nodes)
+stop_of_fits nodes None pair is = tt
+stop_of_fits nodes (Some outcome) pair is = result_map_holds (IsFitEvent nodes) (λ (p : ℕ × ℕ). event.StopAt p.0 p.1 outcome) pair is
+
+stop_line_fits : (nodes : ℕ) (words : List (List ℕ)) → IfOk (stop_line nodes words) (IsFitEvent nodes)
+stop_line_fits nodes [] = tt
+stop_line_fits nodes (a ∷ []) = tt
+stop_line_fits nodes (a ∷ b ∷ []) = tt
+stop_line_fits nodes (a ∷ b ∷ c ∷ []) = stop_of_fits nodes (outcome_of c) (named_pair nodes 1 4294967295 a b) (named_pair_fits nodes 1 4294967295 a b)
+stop_line_fits nodes (a ∷ b ∷ c ∷ d ∷ words) = tt
+
+node_event_fits : (nodes : ℕ) (word : List ℕ) (words : List (List ℕ)) → IfOk (node_event nodes word words) (IsFitEvent nodes)
+node_event_fits nodes word words =
+    let fits = IsFitEvent nodes in
+    let node = node_line nodes words in
+    let is_node = node_line_fits nodes words in
+    either_holds fits (bytes_eq word (codes "clock")) _ _ (result_map_holds fits clock_at (pair_line nodes 0 (2 ^ 64 - 1) words) (pair_line_fits nodes 0 (2 ^ 64 - 1) words))
+    (either_holds fits (bytes_eq word (codes "crash")) _ _ (crash_line_fits nodes words)
+    (either_holds fits (bytes_eq word (codes "stopat")) _ _ (stop_line_fits nodes words)
+    (either_holds fits (bytes_eq word (codes "failat")) _ _ (result_map_holds fits fail_at (pair_line nodes 1 4294967295 words) (pair_line_fits nodes 1 4294967295 words))
+    (either_holds fits (bytes_eq word (codes "restart")) _ _ (result_map_holds fits event.Restart node is_node)
+    (either_holds fits (bytes_eq word (codes "flush")) _ _ (result_map_holds fits event.Flush node is_node)
+    (either_holds fits (bytes_eq word (codes "merge")) _ _ (result_map_holds fits event.Merge node is_node) tt))))))
+
 event_line_fits : (nodes : ℕ) (words : List (List ℕ)) → AreWords words → IfOk (event_line nodes words) (IsFitEvent nodes)
 event_line_fits nodes [] are = tt
 event_line_fits nodes (word ∷ words) are =
@@ -134,7 +208,7 @@ event_line_fits nodes (word ∷ words) are =
     (either_holds fits (bytes_eq word (codes "get")) _ _ (get_line_fits nodes words are.1)
     (either_holds fits (bytes_eq word (codes "deliver")) _ _ (result_map_holds fits event.Deliver (message_line nodes words) (message_line_fits nodes words))
     (either_holds fits (bytes_eq word (codes "drop")) _ _ (result_map_holds fits event.Drop (message_line nodes words) (message_line_fits nodes words))
-    (either_holds fits (bytes_eq word (codes "settle")) _ _ (settle_line_fits nodes words) tt))))
+    (either_holds fits (bytes_eq word (codes "settle")) _ _ (settle_line_fits nodes words) (node_event_fits nodes word words)))))
 
 -- ---- lines with a statement
 

@@ -3,6 +3,7 @@ use Rattle.std.proofs.Common.{◌≡◌, [], ◌∷◌, refl}
 use Rattle.std.specs.Prelude.{pos, negsuc, codes}
 use Rattle.std.specs.Fmt.{digits}
 use Rattle.cs_base.specs.declared.level.Level.TheVariants as level
+use Rattle.cs_store.specs.declared.mem_file.Outcome.TheVariants.{Lost, Torn}
 use Rattle.schema_book.specs.Books.{Book}
 use Rattle.fault_script.specs.declared.script.Script.{Script}
 use Rattle.fault_script.specs.declared.script.ScriptEvent.TheVariants as event
@@ -39,6 +40,26 @@ deliver = refl
 drop : event_line (event.Drop (record { from = 2; upto = 0; number = 7 })) ≡ codes "drop 2 0 7"
 unfolding digits
 drop = refl
+
+clock : event_line (event.Clock 1 5000001) ≡ codes "clock 1 5000001"
+unfolding digits
+clock = refl
+
+crash : event_line (event.Crash 0 Lost) ≡ codes "crash 0 lost"
+unfolding digits
+crash = refl
+
+stop : event_line (event.StopAt 1 4 Torn) ≡ codes "stopat 1 4 torn"
+unfolding digits
+stop = refl
+
+fail : event_line (event.FailAt 0 2) ≡ codes "failat 0 2"
+unfolding digits
+fail = refl
+
+restart : event_line (event.Restart 1) ≡ codes "restart 1"
+unfolding digits
+restart = refl
 
 -- a whole script, with the usual grace
 abbrev small : Book → Script

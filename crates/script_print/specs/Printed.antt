@@ -3,6 +3,8 @@ use Rattle.std.specs.Prelude.{ℕ, ◌==◌, if◌then◌else◌, ℤ, List, [],
 use Rattle.std.specs.Fmt.{decimal, signed_decimal}
 use Rattle.cs_base.specs.declared.level.Level.{Level}
 use Rattle.cs_base.specs.declared.level.Level.TheVariants as level
+use Rattle.cs_store.specs.declared.mem_file.Outcome.{Outcome}
+use Rattle.cs_store.specs.declared.mem_file.Outcome.TheVariants.{Kept, Lost, Torn}
 use Rattle.fault_script.specs.declared.script.Script.{Script}
 use Rattle.fault_script.specs.declared.script.ScriptEvent.{ScriptEvent}
 use Rattle.fault_script.specs.declared.script.ScriptEvent.TheVariants as event
@@ -22,6 +24,12 @@ level_name level.LocalQuorum = codes "LOCAL_QUORUM"
 level_name level.Serial = codes "SERIAL"
 level_name level.LocalSerial = codes "LOCAL_SERIAL"
 level_name level.LocalOne = codes "LOCAL_ONE"
+
+-- the name of what a crash makes of the writes that were not synced
+abbrev pub outcome_name : Outcome → List ℕ
+outcome_name Kept = codes "kept"
+outcome_name Lost = codes "lost"
+outcome_name Torn = codes "torn"
 
 -- a word behind a space
 abbrev pub spaced : List ℕ → List ℕ
@@ -64,6 +72,16 @@ cql_line request = codes "cql " ++ (decimal request.node ++ 32 ∷ (level_name r
 abbrev pub message_line : List ℕ → MessagePlace → List ℕ
 message_line word place = line_of_words word (decimal place.from ∷ decimal place.upto ∷ decimal place.number ∷ [])
 
+-- a node and a number
+abbrev pub pair_line : List ℕ → ℕ → ℕ → List ℕ
+pair_line word node number = line_of_words word (decimal node ∷ decimal number ∷ [])
+
+abbrev pub crash_line : ℕ → Outcome → List ℕ
+crash_line node outcome = line_of_words (codes "crash") (decimal node ∷ outcome_name outcome ∷ [])
+
+abbrev pub stop_line : ℕ → ℕ → Outcome → List ℕ
+stop_line node call outcome = line_of_words (codes "stopat") (decimal node ∷ decimal call ∷ outcome_name outcome ∷ [])
+
 abbrev pub event_line : ScriptEvent → List ℕ
 event_line (event.Put put) = put_line put
 event_line (event.Get get) = get_line get
@@ -71,6 +89,13 @@ event_line (event.Cql request) = cql_line request
 event_line (event.Deliver place) = message_line (codes "deliver") place
 event_line (event.Drop place) = message_line (codes "drop") place
 event_line (event.Settle count) = number_line (codes "settle") count
+event_line (event.Clock node micros) = pair_line (codes "clock") node micros
+event_line (event.Crash node outcome) = crash_line node outcome
+event_line (event.StopAt node call outcome) = stop_line node call outcome
+event_line (event.FailAt node call) = pair_line (codes "failat") node call
+event_line (event.Restart node) = number_line (codes "restart") node
+event_line (event.Flush node) = number_line (codes "flush") node
+event_line (event.Merge node) = number_line (codes "merge") node
 
 -- ---- the script
 

@@ -2,10 +2,11 @@
 
 ghost use Rattle.std.specs.Prelude.{◌≡◌, ◌∷◌, ◌++◌, [], OnOk, codes, flat_map, map};
 ghost use Rattle.std.specs.Fmt.{decimal, signed_decimal};
-ghost use Rattle.script_print.specs.Printed.{spaced, level_name, put_line, get_line, cql_line, message_line, event_line, number_line, ended, printed_lines};
+ghost use Rattle.script_print.specs.Printed.{spaced, level_name, put_line, get_line, cql_line, message_line, pair_line, crash_line, stop_line, event_line, number_line, ended, printed_lines};
 
-use crate::words::{push_level, push_node, push_number, push_signed, push_word};
+use crate::words::{push_level, push_node, push_number, push_outcome, push_signed, push_word};
 use cs_base::{Level, NodeId};
+use cs_store::Outcome;
 use fault_script::{CqlRequest, GetRequest, MessagePlace, PutRequest, ScriptEvent};
 use std::alloc::{AllocError, Global};
 
@@ -89,6 +90,57 @@ fn push_settle(alloc: Global, out: &mut Vec<u8>, count: u32) -> Result<(), Alloc
     push_number(alloc, out, u64::from(count))
 }
 
+/// A line that names a node.
+fn push_named(alloc: Global, out: &mut Vec<u8>, word: &str, node: NodeId) -> Result<(), AllocError>
+    ensures { OnOk result (out.new.items ≡ out.old.items ++ number_line word.now node) }
+{
+    out.extend_from_slice(word.as_bytes())?;
+    push_node(alloc, out, node)
+}
+
+/// A line that names a node, and a number.
+fn push_pair(
+    alloc: Global,
+    out: &mut Vec<u8>,
+    word: &str,
+    node: NodeId,
+    number: u64,
+) -> Result<(), AllocError>
+    ensures { OnOk result (out.new.items ≡ out.old.items ++ pair_line word.now node number) }
+{
+    out.extend_from_slice(word.as_bytes())?;
+    push_node(alloc, out, node)?;
+    push_number(alloc, out, number)
+}
+
+fn push_crash(
+    alloc: Global,
+    out: &mut Vec<u8>,
+    node: NodeId,
+    outcome: Outcome,
+) -> Result<(), AllocError>
+    ensures { OnOk result (out.new.items ≡ out.old.items ++ crash_line node outcome) }
+{
+    out.extend_from_slice(b"crash")?;
+    push_node(alloc, out, node)?;
+    push_outcome(out, outcome)
+}
+
+fn push_stop(
+    alloc: Global,
+    out: &mut Vec<u8>,
+    node: NodeId,
+    call: u64,
+    outcome: Outcome,
+) -> Result<(), AllocError>
+    ensures { OnOk result (out.new.items ≡ out.old.items ++ stop_line node call outcome) }
+{
+    out.extend_from_slice(b"stopat")?;
+    push_node(alloc, out, node)?;
+    push_number(alloc, out, call)?;
+    push_outcome(out, outcome)
+}
+
 fn push_event(alloc: Global, out: &mut Vec<u8>, event: &ScriptEvent) -> Result<(), AllocError>
     ensures { OnOk result (out.new.items ≡ out.old.items ++ event_line event.now) }
 {
@@ -99,6 +151,17 @@ fn push_event(alloc: Global, out: &mut Vec<u8>, event: &ScriptEvent) -> Result<(
         ScriptEvent::Deliver(place) => push_message(alloc, out, "deliver", *place),
         ScriptEvent::Drop(place) => push_message(alloc, out, "drop", *place),
         ScriptEvent::Settle(count) => push_settle(alloc, out, *count),
+        ScriptEvent::Clock(node, micros) => push_pair(alloc, out, "clock", *node, micros.count()),
+        ScriptEvent::Crash(node, outcome) => push_crash(alloc, out, *node, *outcome),
+        ScriptEvent::StopAt(node, call, outcome) => {
+            push_stop(alloc, out, *node, u64::from(*call), *outcome)
+        }
+        ScriptEvent::FailAt(node, call) => {
+            push_pair(alloc, out, "failat", *node, u64::from(*call))
+        }
+        ScriptEvent::Restart(node) => push_named(alloc, out, "restart", *node),
+        ScriptEvent::Flush(node) => push_named(alloc, out, "flush", *node),
+        ScriptEvent::Merge(node) => push_named(alloc, out, "merge", *node),
     }
 }
 

@@ -2,9 +2,10 @@
 
 ghost use Rattle.std.specs.Prelude.{◌≡◌, ◌++◌, OnOk};
 ghost use Rattle.std.specs.Fmt.{decimal, signed_decimal};
-ghost use Rattle.script_print.specs.Printed.{level_name as name_of_level, spaced};
+ghost use Rattle.script_print.specs.Printed.{level_name as name_of_level, outcome_name as name_of_outcome, spaced};
 
 use cs_base::{Level, NodeId};
+use cs_store::Outcome;
 use std::alloc::{AllocError, Global};
 
 pub(crate) fn push_word(out: &mut Vec<u8>, word: &str) -> Result<(), AllocError>
@@ -55,4 +56,20 @@ pub(crate) fn push_level(out: &mut Vec<u8>, level: Level) -> Result<(), AllocErr
     ensures { OnOk result (out.new.items ≡ out.old.items ++ spaced (name_of_level level)) }
 {
     push_word(out, level_name(level))
+}
+
+fn outcome_name(outcome: Outcome) -> &'static str
+    ensures { result.now ≡ name_of_outcome outcome }
+{
+    match outcome {
+        Outcome::Kept => "kept",
+        Outcome::Lost => "lost",
+        Outcome::Torn => "torn",
+    }
+}
+
+pub(crate) fn push_outcome(out: &mut Vec<u8>, outcome: Outcome) -> Result<(), AllocError>
+    ensures { OnOk result (out.new.items ≡ out.old.items ++ spaced (name_of_outcome outcome)) }
+{
+    push_word(out, outcome_name(outcome))
 }

@@ -1,81 +1,76 @@
 -- The changes that a statement makes in the rows that it names (CQL reference: INSERT makes a row, UPDATE and INSERT
 -- write cells, null deletes a cell, and DELETE deletes cells, a row, a range of rows or a partition).
-use Rattle.std.specs.Prelude.{ℕ, ℤ, ◌%◌, List, [], ◌∷◌, Option, Some, None, if◌then◌else◌, flat_map}
-use Rattle.cql_values.specs.declared.value.CqlValue.{CqlValue}
-use Rattle.cql_values.specs.declared.value.CqlValue.TheVariants as values
-use Rattle.cql_values.specs.Protocol.{value_bytes}
+use Rattle.std.specs.Prelude.{ℕ, ℤ, ◌||◌, not, nat_lt, Bool, false, List, [], ◌∷◌, Option, Some, None, if◌then◌else◌, length, flat_map, map}
 use Rattle.changes.specs.declared.Draft.{Draft}
+use Rattle.changes.specs.declared.Partition.{Partition}
 use Rattle.changes.specs.declared.Place.{Place}
 use Rattle.changes.specs.declared.Place.TheVariants.{Cell, Marker, RowGone, RangeGone, PartGone}
-use Rattle.schema_book.specs.declared.table.ColumnDef.{ColumnDef}
-use Rattle.statement_values.specs.declared.supplied.Supplied.{Supplied}
-use Rattle.statement_values.specs.declared.supplied.Supplied.TheVariants.{Missing, Mismatched, Null, NotSet, Value}
+use Rattle.cql_values.specs.declared.value.CqlValue.{CqlValue}
+use Rattle.key_restrictions.specs.Rows.{partition_of, prefix_bytes, bounds_of, is_long}
 use Rattle.key_restrictions.specs.declared.restriction.Restriction.{Restriction}
-use Rattle.key_restrictions.specs.declared.rows.RowRange.{RowRange}
-use Rattle.key_restrictions.specs.Checks.{is_whole, names_rows}
-use Rattle.statement_resolver.specs.declared.resolved.Assigned.{Assigned}
-use Rattle.statement_resolver.specs.declared.resolved.Kind.{Kind}
-use Rattle.statement_resolver.specs.declared.resolved.Kind.TheVariants as kinds
-use Rattle.statement_resolver.specs.declared.resolved.Resolved.{Resolved}
+use Rattle.schema_book.specs.declared.table.ColumnDef.{ColumnDef}
+use Rattle.statement_plan.specs.declared.fault.Fault.{Fault}
+use Rattle.statement_plan.specs.declared.fault.Fault.TheVariants as fault
+use Rattle.prepared_statement.specs.declared.change.Action.{Action}
+use Rattle.prepared_statement.specs.declared.change.Action.TheVariants as actions
+use Rattle.statement_binder.specs.declared.filled.CellValue.{CellValue}
+use Rattle.statement_binder.specs.declared.reach.Reach.{Reach}
+use Rattle.statement_binder.specs.declared.reach.Reach.TheVariants as reach
 
--- ---- timestamps
+-- ---- where they are
 
-abbrev pub number_in : CqlValue → Option ℤ
-number_in (values.Bigint n) = Some n
-number_in _ = None
+abbrev pub reach_of : Action → List ColumnDef → List (Restriction CqlValue) → Reach
+reach_of actions.Insert columns keys = reach.Row (prefix_bytes columns keys)
+reach_of actions.Set columns keys = reach.Row (prefix_bytes columns keys)
+reach_of actions.DeleteRow columns keys = reach.Row (prefix_bytes columns keys)
+reach_of actions.DeleteRows columns keys = reach.Rows (bounds_of columns keys)
+reach_of actions.DeletePartition columns keys = reach.Whole
 
-abbrev pub timestamp_in : Option Supplied → Option ℤ
-timestamp_in None = None
-timestamp_in (Some Missing) = None
-timestamp_in (Some Mismatched) = None
-timestamp_in (Some Null) = None
-timestamp_in (Some NotSet) = None
-timestamp_in (Some (Value v)) = number_in v
+-- a row or a bound has more bytes than are allowed
+abbrev pub is_long_reach : Reach → Bool
+is_long_reach (reach.Row row) = is_long row
+is_long_reach (reach.Rows b) = is_long b.from.at || is_long b.upto.at
+is_long_reach reach.Whole = false
+
+abbrev pub is_empty : List ℕ → Bool
+is_empty key = not (nat_lt 0 (length key))
+
+abbrev pub size_fault : Partition → Reach → Option Fault
+size_fault partition at =
+    if is_long partition.key || is_long_reach at then Some fault.KeyTooLong
+    else if is_empty partition.key then Some fault.EmptyKey
+    else None
+
+abbrev pub row_in : Reach → List ℕ
+row_in (reach.Row row) = row
+row_in (reach.Rows b) = []
+row_in reach.Whole = []
+
+-- ---- changes
 
 -- a statement's own timestamp, or else this one
 abbrev pub timestamp_or : Option ℤ → Option ℤ → Option ℤ
 timestamp_or (Some own) other = Some own
 timestamp_or None other = other
 
--- ---- columns
-
--- a table has no more than 256 columns
-abbrev pub column_number : ℕ → ℕ
-column_number place = place % 256
-
--- ---- changes
-
 abbrev pub draft_at : Option ℤ → Place → Option (List ℕ) → Draft
 draft_at timestamp place value = record { place = place; value = value; timestamp = timestamp }
 
--- a value is written, null deletes, and what is not set is left as it is
-abbrev pub cell_changes : Option ℤ → List ℕ → ℕ → Supplied → List Draft
-cell_changes timestamp row column Missing = []
-cell_changes timestamp row column Mismatched = []
-cell_changes timestamp row column Null = draft_at timestamp (Cell row column) None ∷ []
-cell_changes timestamp row column NotSet = []
-cell_changes timestamp row column (Value v) = draft_at timestamp (Cell row column) (Some (value_bytes v)) ∷ []
+abbrev pub cell_draft : Option ℤ → List ℕ → CellValue → Draft
+cell_draft timestamp row c = draft_at timestamp (Cell row c.column) c.value
 
-abbrev pub assigned_changes : Option ℤ → List ℕ → Assigned → List Draft
-assigned_changes timestamp row a = cell_changes timestamp row (column_number a.column) a.value
+abbrev pub cell_drafts : Option ℤ → List ℕ → List CellValue → List Draft
+cell_drafts timestamp row cells = map (cell_draft timestamp row) cells
 
-abbrev pub cells_changes : Option ℤ → List ℕ → List Assigned → List Draft
-cells_changes timestamp row cells = flat_map (assigned_changes timestamp row) cells
-
--- what is deleted: the row that the whole key names, or rows of a partition, or all of it
-abbrev pub deleted_place : List ColumnDef → List Restriction → RowRange → Place
-deleted_place columns rs range =
-    if is_whole columns rs then RowGone range.row
-    else if names_rows columns rs then RangeGone range.from range.upto
-    else PartGone
+abbrev pub row_drafts : Action → Option ℤ → List ℕ → List CellValue → List Draft
+row_drafts actions.Insert timestamp row cells = draft_at timestamp (Marker row) (Some []) ∷ cell_drafts timestamp row cells
+row_drafts actions.Set timestamp row cells = cell_drafts timestamp row cells
+row_drafts actions.DeleteRow timestamp row cells = draft_at timestamp (RowGone row) None ∷ []
+row_drafts actions.DeleteRows timestamp row cells = draft_at timestamp (RowGone row) None ∷ []
+row_drafts actions.DeletePartition timestamp row cells = draft_at timestamp (RowGone row) None ∷ []
 
 -- the changes, at this timestamp or else at the start time of the request
-abbrev pub changes_by : Kind → Option ℤ → List ColumnDef → Resolved → RowRange → List Draft
-changes_by kinds.Insert timestamp columns r range =
-    draft_at timestamp (Marker range.row) (Some []) ∷ cells_changes timestamp range.row r.cells
-changes_by kinds.Update timestamp columns r range = cells_changes timestamp range.row r.cells
-changes_by kinds.DeleteCells timestamp columns r range = cells_changes timestamp range.row r.cells
-changes_by kinds.DeleteRows timestamp columns r range = draft_at timestamp (deleted_place columns r.restrictions range) None ∷ []
-
-abbrev pub changes_of : Option ℤ → List ColumnDef → Resolved → RowRange → List Draft
-changes_of timestamp columns r range = changes_by r.kind timestamp columns r range
+abbrev pub drafts_at : Action → Option ℤ → Reach → List CellValue → List Draft
+drafts_at action timestamp (reach.Row row) cells = row_drafts action timestamp row cells
+drafts_at action timestamp (reach.Rows b) cells = draft_at timestamp (RangeGone b.from b.upto) None ∷ []
+drafts_at action timestamp reach.Whole cells = draft_at timestamp PartGone None ∷ []

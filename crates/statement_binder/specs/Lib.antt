@@ -1,6 +1,8 @@
+pub mod Filled
+pub mod Supplies
 pub mod Changes
-pub mod Conditions
+pub mod Plans
 pub mod Answers
-pub mod Writes
-pub mod Reads
 pub mod Meanings
+pub mod Refusals
+pub mod Laws

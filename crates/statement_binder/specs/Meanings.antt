@@ -2,46 +2,27 @@
 use Rattle.std.specs.Prelude.{◌≡◌, ℕ, ℤ, true, false, List, Option, Some, None, Result, Ok, Err}
 use Rattle.changes.specs.declared.Draft.{Draft}
 use Rattle.changes.specs.declared.Partition.{Partition}
-use Rattle.cql_statement.specs.declared.modification.Modification.TheVariants as modifications
 use Rattle.cql_statement.specs.declared.statement.Statement.{Statement}
-use Rattle.cql_statement.specs.declared.statement.Statement.TheVariants as statement
 use Rattle.mutation_drafts.specs.Kept.{IsKept}
 use Rattle.mutation_drafts.specs.Counted.{is_long_mutation}
-use Rattle.schema_book.specs.Books.{Book, keyspace_at}
-use Rattle.schema_book.specs.declared.table.Keyspace.{Keyspace}
+use Rattle.schema_book.specs.Books.{Book}
 use Rattle.statement_plan.specs.declared.fault.Fault.{Fault}
 use Rattle.statement_plan.specs.declared.fault.Fault.TheVariants as fault
-use Rattle.statement_plan.specs.declared.fault.Feature.TheVariants as feature
 use Rattle.statement_plan.specs.declared.operation.ConditionalOperation.{ConditionalOperation}
 use Rattle.statement_plan.specs.declared.plan.Plan.{Plan}
 use Rattle.statement_plan.specs.declared.plan.Plan.TheVariants as plan
 use Rattle.statement_values.specs.declared.params.Params.{Params}
 use Rattle.statement_binder.specs.declared.error.BindError.{BindError}
 use Rattle.statement_binder.specs.declared.error.BindError.TheVariants as error
-use Rattle.statement_plan.specs.Faults.{lower_of}
-use Rattle.statement_binder.specs.Writes.{excess, refused_or, modification_plan, batch_plan}
-use Rattle.statement_binder.specs.Reads.{select_plan}
-
--- a refusal, unless a lower one holds
-abbrev pub refused_before : Option Fault → Fault → Fault
-refused_before None f = f
-refused_before (Some g) f = lower_of g f
-
-abbrev pub use_of : Params → List ℕ → Option Keyspace → Result Plan Fault
-use_of params name None = Err (refused_before (excess params) fault.UnknownKeyspace)
-use_of params name (Some k) = refused_or (excess params) (plan.Use name)
+use Rattle.prepared_statement.specs.Prepared.{outline_of, refusal_of}
+use Rattle.prepared_statement.specs.declared.prepared.Prepared.{Prepared}
+use Rattle.statement_binder.specs.Plans.{plan_of}
+use Rattle.statement_binder.specs.Supplies.{whole}
 
 -- The plan of a statement, with all changes that it asks for, or the lowest refusal that holds but for the length of the
 -- mutation. The timestamp is the one that the protocol gives
 abbrev pub meaning_of : Book → Option (List ℕ) → Params → Option ℤ → Statement → Result Plan Fault
-meaning_of b used params timestamp (statement.CreateKeyspace c) = Err (refused_before (excess params) (fault.NotSupported feature.Create))
-meaning_of b used params timestamp (statement.CreateTable c) = Err (refused_before (excess params) (fault.NotSupported feature.Create))
-meaning_of b used params timestamp (statement.Use u) = use_of params u.keyspace (keyspace_at b u.keyspace)
-meaning_of b used params timestamp (statement.Insert i) = modification_plan b used params timestamp (modifications.Insert i)
-meaning_of b used params timestamp (statement.Update u) = modification_plan b used params timestamp (modifications.Update u)
-meaning_of b used params timestamp (statement.Delete d) = modification_plan b used params timestamp (modifications.Delete d)
-meaning_of b used params timestamp (statement.Select s) = select_plan b used params s
-meaning_of b used params timestamp (statement.Batch x) = batch_plan b used params timestamp x
+meaning_of b used params timestamp s = plan_of (outline_of b used s) (whole params) timestamp
 
 -- ---- of changes of one place the one that beats stays
 
@@ -84,3 +65,9 @@ abbrev pub Answers : Result Plan BindError → Result Plan Fault → Type 0
 Answers (Ok p) meaning = IsPlan p meaning
 Answers (Err (error.Refused f)) meaning = IsRefusal f meaning
 Answers (Err error.NoMemory) meaning = Unit {0}
+
+-- what was prepared is this, where nothing of it is refused whatever its values are, unless memory ran out
+abbrev pub IsPreparedAs : Result Prepared BindError → Prepared → Type 0
+IsPreparedAs (Ok p) outline = (p ≡ outline) × (refusal_of outline ≡ None)
+IsPreparedAs (Err (error.Refused f)) outline = refusal_of outline ≡ Some f
+IsPreparedAs (Err error.NoMemory) outline = Unit {0}

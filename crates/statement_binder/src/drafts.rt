@@ -1,48 +1,20 @@
 //! The changes that a statement makes.
 
-ghost use Rattle.std.specs.Prelude.{◌≡◌, ◌++◌, IfOk, OnOk};
-ghost use Rattle.statement_binder.specs.Changes.{number_in as number_in_of, timestamp_in as timestamp_in_of, timestamp_or as timestamp_or_of, column_number as column_number_of, draft_at as draft_at_of, assigned_changes, cells_changes, deleted_place as deleted_place_of, changes_of as changes_of_resolved};
+ghost use Rattle.std.specs.Prelude.{◌≡◌, ◌++◌, [], ◌∷◌, IfOk, OnOk};
+ghost use Rattle.statement_binder.specs.Changes.{timestamp_or as timestamp_or_of, draft_at as draft_at_of, cell_draft as cell_draft_of, cell_drafts, row_drafts as row_drafts_of, drafts_at as drafts_at_of};
 
+use crate::filled::CellValue;
+use crate::reach::Reach;
 use changes::{Draft, Drafts, Place};
-use cql_values::{CqlValue, encode};
 use cs_base::{Bytes, Items};
-use key_restrictions::{Restriction, RowRange, is_whole, names_rows};
-use schema_book::ColumnDef;
-use statement_resolver::{Assigned, Kind, Resolved};
-use statement_values::Supplied;
+use prepared_statement::Action;
 use std::alloc::{AllocError, Global};
-
-fn number_in(value: &CqlValue) -> Option<i64>
-    ensures { result ≡ number_in_of value.now }
-{
-    match value {
-        CqlValue::Bigint(number) => Some(*number),
-        _ => None,
-    }
-}
-
-/// The timestamp that a statement gives.
-pub(crate) fn timestamp_in(stamp: &Option<Supplied>) -> Option<i64>
-    ensures { result ≡ timestamp_in_of stamp.now }
-{
-    match stamp {
-        Some(Supplied::Value(value)) => number_in(value),
-        _ => None,
-    }
-}
 
 /// A statement's own timestamp, or else this one.
 pub(crate) fn timestamp_or(own: Option<i64>, other: Option<i64>) -> Option<i64>
     ensures { result ≡ timestamp_or_of own other }
 {
     own.or(other)
-}
-
-/// The number of a column by its place: a table has no more than 256.
-pub(crate) fn column_number(place: usize) -> u8
-    ensures { result ≡ column_number_of place }
-{
-    (place % 256) as u8
 }
 
 fn draft_at(timestamp: Option<i64>, place: Place, value: Option<Bytes>) -> Draft
@@ -55,24 +27,25 @@ fn draft_at(timestamp: Option<i64>, place: Place, value: Option<Bytes>) -> Draft
     }
 }
 
-/// Adds the change of a cell, if its value says one.
-fn add_cell(
-    drafts: &mut Drafts,
+fn copied(alloc: Global, value: &Option<Bytes>) -> Result<Option<Bytes>, AllocError>
+    ensures { IfOk result (λ copy. copy ≡ value.now) }
+{
+    match value {
+        Some(bytes) => Ok(Some(bytes.copy(alloc)?)),
+        None => Ok(None),
+    }
+}
+
+fn cell_draft(
     alloc: Global,
     timestamp: Option<i64>,
     row: &Bytes,
-    cell: &Assigned,
-) -> Result<(), AllocError>
-    ensures { OnOk result (drafts.new ≡ drafts.old ++ assigned_changes timestamp row.now cell.now) }
+    cell: &CellValue,
+) -> Result<Draft, AllocError>
+    ensures { IfOk result (λ draft. draft ≡ cell_draft_of timestamp row.now cell.now) }
 {
-    let value = match &cell.value {
-        Supplied::Missing | Supplied::Mismatched | Supplied::NotSet => return Ok(()),
-        Supplied::Null => None,
-        Supplied::Value(value) => Some(encode(alloc, value)?),
-    };
-    let place = Place::Cell(row.copy(alloc)?, column_number(cell.column));
-    drafts.push(draft_at(timestamp, place, value))?;
-    Ok(())
+    let place = Place::Cell(row.copy(alloc)?, cell.column);
+    Ok(draft_at(timestamp, place, copied(alloc, &cell.value)?))
 }
 
 /// Adds the changes of cells.
@@ -81,70 +54,64 @@ fn add_cells(
     alloc: Global,
     timestamp: Option<i64>,
     row: &Bytes,
-    cells: &[Assigned],
+    cells: &[CellValue],
 ) -> Result<(), AllocError>
-    ensures { OnOk result (drafts.new ≡ drafts.old ++ cells_changes timestamp row.now cells.now) }
+    ensures { OnOk result (drafts.new ≡ drafts.old ++ cell_drafts timestamp row.now cells.now) }
 {
     for cell in cells {
-        add_cell(drafts, alloc, timestamp, row, cell)?;
+        drafts.push(cell_draft(alloc, timestamp, row, cell)?)?;
     }
     Ok(())
 }
 
-/// What a DELETE of rows deletes.
-fn deleted_place(
+fn row_drafts(
     alloc: Global,
-    columns: &[ColumnDef],
-    restrictions: &[Restriction],
-    range: &RowRange,
-) -> Result<Place, AllocError>
-    ensures { IfOk result (λ place. place ≡ deleted_place_of columns.now restrictions.now range.now) }
-{
-    if is_whole(columns, restrictions) {
-        Ok(Place::RowGone(range.row.copy(alloc)?))
-    } else if names_rows(columns, restrictions) {
-        Ok(Place::RangeGone(range.from.copy(alloc)?, range.upto.copy(alloc)?))
-    } else {
-        Ok(Place::PartGone)
-    }
-}
-
-/// The changes of a statement in the rows that it names, at this timestamp, or else at the start time of the request.
-pub(crate) fn changes_of(
-    alloc: Global,
+    action: Action,
     timestamp: Option<i64>,
-    columns: &[ColumnDef],
-    resolved: &Resolved,
-    range: &RowRange,
+    row: &Bytes,
+    cells: &[CellValue],
 ) -> Result<Drafts, AllocError>
-    ensures { IfOk result (λ drafts. drafts ≡ changes_of_resolved timestamp columns.now resolved.now range.now) }
+    ensures { IfOk result (λ drafts. drafts ≡ row_drafts_of action timestamp row.now cells.now) }
 {
     let mut drafts = Items::new(alloc);
-    match resolved.kind {
-        Kind::Insert => {
-            let marker = Place::Marker(range.row.copy(alloc)?);
+    match action {
+        Action::Insert => {
+            let marker = Place::Marker(row.copy(alloc)?);
             drafts.push(draft_at(timestamp, marker, Some(Bytes::new(alloc))))?;
-            add_cells(
-                &mut drafts,
-                alloc,
-                timestamp,
-                &range.row,
-                resolved.cells.as_slice(),
-            )?;
+            add_cells(&mut drafts, alloc, timestamp, row, cells)?;
         }
-        Kind::Update | Kind::DeleteCells => {
-            add_cells(
-                &mut drafts,
-                alloc,
-                timestamp,
-                &range.row,
-                resolved.cells.as_slice(),
-            )?;
-        }
-        Kind::DeleteRows => {
-            let place = deleted_place(alloc, columns, resolved.restrictions.as_slice(), range)?;
-            drafts.push(draft_at(timestamp, place, None))?;
+        Action::Set => add_cells(&mut drafts, alloc, timestamp, row, cells)?,
+        Action::DeleteRow | Action::DeleteRows | Action::DeletePartition => {
+            drafts.push(draft_at(timestamp, Place::RowGone(row.copy(alloc)?), None))?;
         }
     }
     Ok(drafts)
+}
+
+fn only(alloc: Global, draft: Draft) -> Result<Drafts, AllocError>
+    ensures { IfOk result (λ drafts. drafts ≡ draft ∷ []) }
+{
+    let mut drafts = Items::new(alloc);
+    drafts.push(draft)?;
+    Ok(drafts)
+}
+
+/// The changes of a statement, at this timestamp, or else at the start time of the request.
+pub(crate) fn drafts_at(
+    alloc: Global,
+    action: Action,
+    timestamp: Option<i64>,
+    reach: Reach,
+    cells: &[CellValue],
+) -> Result<Drafts, AllocError>
+    ensures { IfOk result (λ drafts. drafts ≡ drafts_at_of action timestamp reach cells.now) }
+{
+    match reach {
+        Reach::Row(row) => row_drafts(alloc, action, timestamp, &row, cells),
+        Reach::Rows(bounds) => {
+            let place = Place::RangeGone(bounds.from, bounds.upto);
+            only(alloc, draft_at(timestamp, place, None))
+        }
+        Reach::Whole => only(alloc, draft_at(timestamp, Place::PartGone, None)),
+    }
 }

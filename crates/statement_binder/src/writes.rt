@@ -1,127 +1,43 @@
 //! What statements that change rows ask for, one alone or a batch.
 
-ghost use Rattle.std.specs.Prelude.{◌≡◌, ◌++◌, false, IfOk, OnOk, option_copied};
+ghost use Rattle.std.specs.Prelude.{◌≡◌, ◌++◌, IfOk, OnOk};
 ghost use Rattle.std.specs.List.{list_any};
 ghost use Rattle.std.specs.Vec.Iter.{into_iter_items};
-ghost use Rattle.key_restrictions.specs.Rows.{range_of as range_of_rows};
-ghost use Rattle.statement_values.specs.Sources.{left_in};
-ghost use Rattle.statement_plan.specs.Faults.{lower as lower_of};
 ghost use Rattle.statement_binder.specs.Answers.{Gives};
-ghost use Rattle.statement_resolver.specs.Changing.{modification_in};
-ghost use Rattle.statement_resolver.specs.Names.{table_named as table_named_of, table_of_modification};
-ghost use Rattle.statement_resolver.specs.Resolved.{stamp_of, left_after_stamp, left_after_modification};
-ghost use Rattle.statement_binder.specs.Writes.{own_fault as own_fault_of, condition_fault as condition_fault_of, piece_at as piece_at_of, piece_of as piece_of_resolved, excess as excess_of, write_of as write_of_piece, operation_at as operation_at_of, single_of, known_modification, modification_plan, has_no_table as has_no_table_of, has_unknown as has_unknown_of, piece_in, pieces_of, left_after_all, pieces_fault as pieces_fault_of, is_elsewhere as is_elsewhere_of, is_scattered as is_scattered_of, scatter_fault as scatter_fault_of, stamp_fault as stamp_fault_of, batch_fault as batch_fault_of, drafts_of, mutation_of_pieces, batch_of, stamped_batch, batch_plan};
+ghost use Rattle.statement_binder.specs.Plans.{operation_plan, operation_of as operation_of_change, write_plan, filled_change, change_plan, batch_piece as batch_piece_of, pieces_of, behind_all, pieces_fault as pieces_fault_of, is_elsewhere as is_elsewhere_of, is_scattered as is_scattered_of, scatter_fault as scatter_fault_of, batch_fault as batch_fault_of, drafts_of, mutation_of_pieces, filled_batch, batch_plan};
+ghost use Rattle.statement_binder.specs.Supplies.{left_for, next_filled, behind_next};
 
-use crate::conditions::operation_of;
-use crate::drafts::{changes_of, timestamp_in, timestamp_or};
+use crate::drafts::timestamp_or;
 use crate::error::BindError;
-use crate::piece::Piece;
+use crate::filled::Filled;
+use crate::piece::{Piece, operation_of, piece_of};
+use crate::supply::Supply;
 use changes::{Draft, DraftMutation, Partition};
-use cql_statement::{Batch, Modification};
 use cs_base::Items;
-use key_restrictions::{RowRange, row_range};
-use schema_book::{ColumnDef, Schema, Table};
+use prepared_statement::{Batch, Change, condition_fault, is_conditional, lower};
 use statement_plan::{Fault, Feature, Plan};
-use statement_resolver::{
-    Changing, Guard, Resolved, fault_of, is_conditional, mismatches_stamp, misses_stamp,
-    modifies_unknown, resolve, size_fault, stamp, table_named,
-};
-use statement_values::{Params, Supplied, Supplier};
 use std::alloc::{AllocError, Global};
 use std::vec::IntoIter;
 
-/// Where a statement is bound: the tables, the keyspace in use, and the timestamp that the protocol gives.
-#[derive(Clone, Copy)]
-pub(crate) struct Setting<'a> {
-    pub(crate) schema: &'a Schema,
-    pub(crate) keyspace: Option<&'a str>,
-    pub(crate) timestamp: Option<i64>,
-}
-
-/// The lower of two refusals, if there is one.
-pub(crate) fn lower(fault: Option<Fault>, other: Option<Fault>) -> Option<Fault>
-    ensures { result ≡ lower_of fault other }
-{
-    match (fault, other) {
-        (Some(fault), Some(other)) => Some(fault.lower(other)),
-        (Some(fault), None) => Some(fault),
-        (None, other) => other,
-    }
-}
-
-fn own_fault(columns: &[ColumnDef], resolved: &Resolved, range: &RowRange) -> Option<Fault>
-    ensures { result ≡ own_fault_of columns.now resolved.now range.now }
-{
-    lower(fault_of(columns, resolved), size_fault(resolved, range))
-}
-
-fn condition_fault(guard: &Guard) -> Option<Fault>
-    ensures { result ≡ condition_fault_of guard.now }
-{
-    if is_conditional(guard) {
-        Some(Fault::NotSupported(Feature::Condition))
-    } else {
-        None
-    }
-}
-
-fn piece_at(
+fn operation(
     alloc: Global,
-    timestamp: Option<i64>,
-    columns: &[ColumnDef],
-    resolved: &Resolved,
-    range: RowRange,
-) -> Result<Piece, AllocError>
-    ensures { IfOk result (λ piece. piece ≡ piece_at_of timestamp columns.now resolved.now range) }
+    change: &Change,
+    filled: Filled,
+    excess: Option<Fault>,
+) -> Result<Plan, BindError>
+    ensures { Gives result (operation_plan excess (operation_of_change change.now filled)) }
 {
-    let fault = lower(
-        condition_fault(&resolved.guard),
-        own_fault(columns, resolved, &range),
-    );
-    let timestamp = timestamp_or(timestamp_in(&resolved.stamp), timestamp);
-    let drafts = changes_of(alloc, timestamp, columns, resolved, &range)?;
-    Ok(Piece {
-        fault,
-        partition: range.partition,
-        drafts,
-    })
-}
-
-fn range_of(alloc: Global, table: &Table, resolved: &Resolved) -> Result<RowRange, AllocError>
-    ensures { IfOk result (λ range. range ≡ range_of_rows table.now.number table.now.columns resolved.now.restrictions) }
-{
-    let restrictions = resolved.restrictions.as_slice();
-    row_range(alloc, table.number, table.columns.as_slice(), restrictions)
-}
-
-/// What a statement asks for without a condition.
-fn piece_of(
-    alloc: Global,
-    timestamp: Option<i64>,
-    table: &Table,
-    resolved: &Resolved,
-) -> Result<Piece, AllocError>
-    ensures { IfOk result (λ piece. piece ≡ piece_of_resolved timestamp table.now resolved.now) }
-{
-    let range = range_of(alloc, table, resolved)?;
-    piece_at(alloc, timestamp, table.columns.as_slice(), resolved, range)
-}
-
-/// More values than markers.
-pub(crate) fn excess(supplier: &Supplier) -> Option<Fault>
-    ensures { result ≡ excess_of (left_in supplier.now) }
-{
-    if supplier.has_left() {
-        Some(Fault::ValueCount)
-    } else {
-        None
+    let (fault, operation) = operation_of(alloc, change, filled)?;
+    match lower(fault, excess) {
+        Some(fault) => Err(BindError::Refused(fault)),
+        None => Ok(Plan::Conditional(operation)),
     }
 }
 
-fn write_of(supplier: &Supplier, piece: Piece) -> Result<Plan, BindError>
-    ensures { Gives result (write_of_piece (left_in supplier.now) piece) }
+fn write(piece: Piece, excess: Option<Fault>) -> Result<Plan, BindError>
+    ensures { Gives result (write_plan excess piece) }
 {
-    match lower(piece.fault, excess(supplier)) {
+    match lower(piece.fault, excess) {
         Some(fault) => Err(BindError::Refused(fault)),
         None => Ok(Plan::Write(DraftMutation {
             partition: piece.partition,
@@ -130,124 +46,75 @@ fn write_of(supplier: &Supplier, piece: Piece) -> Result<Plan, BindError>
     }
 }
 
-fn operation_at(
-    alloc: Global,
-    columns: &[ColumnDef],
-    supplier: &Supplier,
-    resolved: &Resolved,
-    range: RowRange,
-) -> Result<Plan, BindError>
-    ensures { Gives result (operation_at_of columns.now (left_in supplier.now) resolved.now range) }
-{
-    match lower(own_fault(columns, resolved, &range), excess(supplier)) {
-        Some(fault) => Err(BindError::Refused(fault)),
-        None => Ok(Plan::Conditional(operation_of(alloc, columns, resolved, range)?)),
-    }
-}
-
-/// What one statement asks for, whose columns are there.
-fn single(
+fn filled_plan(
     alloc: Global,
     timestamp: Option<i64>,
-    table: &Table,
-    supplier: &Supplier,
-    resolved: &Resolved,
+    change: &Change,
+    filled: Filled,
+    excess: Option<Fault>,
 ) -> Result<Plan, BindError>
-    ensures { Gives result (single_of timestamp table.now (left_in supplier.now) resolved.now) }
+    ensures { Gives result (filled_change timestamp change.now filled excess) }
 {
-    if is_conditional(&resolved.guard) {
-        let range = range_of(alloc, table, resolved)?;
-        operation_at(alloc, table.columns.as_slice(), supplier, resolved, range)
+    if is_conditional(change.guard) {
+        operation(alloc, change, filled, excess)
     } else {
-        write_of(supplier, piece_of(alloc, timestamp, table, resolved)?)
+        write(piece_of(alloc, timestamp, change, &filled)?, excess)
     }
-}
-
-fn known(
-    alloc: Global,
-    timestamp: Option<i64>,
-    params: &Params,
-    changing: Changing,
-    table: &Table,
-) -> Result<Plan, BindError>
-    ensures { Gives result (known_modification timestamp params.now (modification_in changing.entry) table.now) }
-{
-    if modifies_unknown(&table.columns, changing) {
-        return Err(BindError::Refused(Fault::UnknownColumn));
-    }
-    let mut supplier = Supplier::new(params);
-    let resolved = resolve(alloc, &table.columns, &mut supplier, changing)?;
-    single(alloc, timestamp, table, &supplier, &resolved)
 }
 
 /// What a statement that changes rows asks for.
-pub(crate) fn modification(
+pub(crate) fn change(
     alloc: Global,
-    setting: Setting,
-    params: &Params,
-    changing: Changing,
-) -> Result<Plan, BindError>
-    ensures { Gives result (modification_plan setting.entry.schema.now (option_copied setting.entry.keyspace) params.now setting.entry.timestamp (modification_in changing.entry)) }
-{
-    match table_named(setting.schema, setting.keyspace, changing.table()) {
-        Some(table) => known(alloc, setting.timestamp, params, changing, table),
-        None => Err(BindError::Refused(Fault::UnknownTable)),
-    }
-}
-
-fn has_no_table(setting: Setting, modification: &Modification) -> bool
-    ensures { result ≡ has_no_table_of setting.entry.schema.now (option_copied setting.entry.keyspace) modification.now }
-{
-    let reference = Changing::of(modification).table();
-    table_named(setting.schema, setting.keyspace, reference).is_none()
-}
-
-fn has_unknown(setting: Setting, modification: &Modification) -> bool
-    ensures { result ≡ has_unknown_of setting.entry.schema.now (option_copied setting.entry.keyspace) modification.now }
-{
-    let changing = Changing::of(modification);
-    match table_named(setting.schema, setting.keyspace, changing.table()) {
-        Some(table) => modifies_unknown(&table.columns, changing),
-        None => false,
-    }
-}
-
-/// Adds what a statement of a batch asks for, whose table is there.
-fn add_piece(
-    alloc: Global,
-    setting: Setting,
     timestamp: Option<i64>,
-    supplier: &mut Supplier,
-    pieces: &mut Items<Piece>,
-    statement: &Modification,
-) -> Result<(), AllocError>
-    requires { has_no_table_of setting.schema.now (option_copied setting.keyspace) statement.now ≡ false }
-    ensures values { OnOk result (pieces.new ≡ pieces.old ++ piece_in timestamp (left_in supplier.old) statement.now (table_named_of setting.entry.schema.now (option_copied setting.entry.keyspace) (table_of_modification statement.now))) }
-    ensures left { OnOk result (left_in supplier.new ≡ left_after_modification (left_in supplier.old) statement.now) }
+    change: &Change,
+    supply: Supply,
+) -> Result<Plan, BindError>
+    ensures { Gives result (change_plan timestamp change.now (left_for supply.entry)) }
 {
-    let changing = Changing::of(statement);
-    if let Some(table) = table_named(setting.schema, setting.keyspace, changing.table()) {
-        let resolved = resolve(alloc, &table.columns, supplier, changing)?;
-        pieces.push(piece_of(alloc, timestamp, table, &resolved)?)?;
-    }
-    Ok(())
+    let mut supply = supply;
+    let filled = supply.fill(alloc, change.slots.as_slice())?;
+    filled_plan(alloc, timestamp, change, filled, supply.excess())
+}
+
+fn batch_piece(
+    alloc: Global,
+    timestamp: Option<i64>,
+    change: &Change,
+    filled: &Filled,
+) -> Result<Piece, AllocError>
+    ensures { IfOk result (λ piece. piece ≡ batch_piece_of timestamp change.now filled.now) }
+{
+    let mut piece = piece_of(alloc, timestamp, change, filled)?;
+    piece.fault = lower(condition_fault(change.guard), piece.fault);
+    Ok(piece)
+}
+
+fn next_piece(
+    alloc: Global,
+    timestamp: Option<i64>,
+    supply: &mut Supply,
+    change: &Change,
+) -> Result<Piece, AllocError>
+    ensures value { IfOk result (λ piece. piece ≡ batch_piece_of timestamp change.now (next_filled (left_for supply.old) change.now.slots)) }
+    ensures left { OnOk result (left_for supply.new ≡ behind_next (left_for supply.old) change.now.slots) }
+{
+    let filled = supply.fill(alloc, change.slots.as_slice())?;
+    batch_piece(alloc, timestamp, change, &filled)
 }
 
 /// The statements of a batch, one after another.
 fn pieces(
     alloc: Global,
-    setting: Setting,
     timestamp: Option<i64>,
-    supplier: &mut Supplier,
-    statements: &[Modification],
+    supply: &mut Supply,
+    changes: &[Change],
 ) -> Result<Items<Piece>, AllocError>
-    requires { list_any (has_no_table_of setting.schema.now (option_copied setting.keyspace)) statements.now ≡ false }
-    ensures values { IfOk result (λ ps. ps ≡ pieces_of setting.entry.schema.now (option_copied setting.entry.keyspace) timestamp (left_in supplier.old) statements.now) }
-    ensures left { OnOk result (left_in supplier.new ≡ left_after_all (left_in supplier.old) statements.now) }
+    ensures values { IfOk result (λ ps. ps ≡ pieces_of timestamp (left_for supply.old) changes.now) }
+    ensures left { OnOk result (left_for supply.new ≡ behind_all (left_for supply.old) changes.now) }
 {
     let mut pieces = Items::new(alloc);
-    for statement in statements {
-        add_piece(alloc, setting, timestamp, supplier, &mut pieces, statement)?;
+    for change in changes {
+        pieces.push(next_piece(alloc, timestamp, supply, change)?)?;
     }
     Ok(pieces)
 }
@@ -293,23 +160,11 @@ fn scatter_fault(pieces: &[Piece]) -> Option<Fault>
     }
 }
 
-fn stamp_fault(stamp: &Option<Supplied>) -> Option<Fault>
-    ensures { result ≡ stamp_fault_of stamp.now }
-{
-    if mismatches_stamp(stamp) {
-        Some(Fault::TypeMismatch)
-    } else if misses_stamp(stamp) {
-        Some(Fault::ValueCount)
-    } else {
-        None
-    }
-}
-
-fn batch_fault(stamp: &Option<Supplied>, supplier: &Supplier, pieces: &[Piece]) -> Option<Fault>
-    ensures { result ≡ batch_fault_of stamp.now (left_in supplier.now) pieces.now }
+fn batch_fault(front: Option<Fault>, excess: Option<Fault>, pieces: &[Piece]) -> Option<Fault>
+    ensures { result ≡ batch_fault_of front excess pieces.now }
 {
     lower(
-        lower(stamp_fault(stamp), excess(supplier)),
+        lower(front, excess),
         lower(pieces_fault(pieces), scatter_fault(pieces)),
     )
 }
@@ -348,67 +203,30 @@ fn gather(pieces: Items<Piece>) -> Result<Plan, BindError>
 }
 
 fn batch_of_pieces(
-    stamp: &Option<Supplied>,
-    supplier: &Supplier,
+    front: Option<Fault>,
+    excess: Option<Fault>,
     pieces: Items<Piece>,
 ) -> Result<Plan, BindError>
-    ensures { Gives result (batch_of stamp.now (left_in supplier.now) pieces) }
+    ensures { Gives result (filled_batch front excess pieces) }
 {
-    match batch_fault(stamp, supplier, pieces.as_slice()) {
+    match batch_fault(front, excess, pieces.as_slice()) {
         Some(fault) => Err(BindError::Refused(fault)),
         None => gather(pieces),
     }
 }
 
-/// What a batch asks for, whose tables and columns are there.
-fn known_batch(
-    alloc: Global,
-    setting: Setting,
-    params: &Params,
-    batch: &Batch,
-) -> Result<Plan, BindError>
-    requires { list_any (has_no_table_of setting.schema.now (option_copied setting.keyspace)) batch.now.statements ≡ false }
-    ensures { Gives result (stamped_batch setting.entry.schema.now (option_copied setting.entry.keyspace) setting.entry.timestamp (stamp_of params.now batch.now.stamp) (left_after_stamp params.now batch.now.stamp) batch.now.statements) }
-{
-    let mut supplier = Supplier::new(params);
-    let stamp = stamp(alloc, &mut supplier, &batch.stamp)?;
-    let timestamp = timestamp_or(timestamp_in(&stamp), setting.timestamp);
-    let statements = batch.statements.as_slice();
-    let pieces = pieces(alloc, setting, timestamp, &mut supplier, statements)?;
-    batch_of_pieces(&stamp, &supplier, pieces)
-}
-
-fn some_without_table(setting: Setting, statements: &[Modification]) -> bool
-    ensures { result ≡ list_any (has_no_table_of setting.entry.schema.now (option_copied setting.entry.keyspace)) statements.now }
-{
-    statements
-        .iter()
-        .any(|statement| has_no_table(setting, statement))
-}
-
-fn some_unknown(setting: Setting, statements: &[Modification]) -> bool
-    ensures { result ≡ list_any (has_unknown_of setting.entry.schema.now (option_copied setting.entry.keyspace)) statements.now }
-{
-    statements
-        .iter()
-        .any(|statement| has_unknown(setting, statement))
-}
-
 /// What a batch asks for.
 pub(crate) fn batch(
     alloc: Global,
-    setting: Setting,
-    params: &Params,
+    timestamp: Option<i64>,
     batch: &Batch,
+    supply: Supply,
 ) -> Result<Plan, BindError>
-    ensures { Gives result (batch_plan setting.entry.schema.now (option_copied setting.entry.keyspace) params.now setting.entry.timestamp batch.now) }
+    ensures { Gives result (batch_plan timestamp batch.now (left_for supply.entry)) }
 {
-    let statements = batch.statements.as_slice();
-    if some_without_table(setting, statements) {
-        return Err(BindError::Refused(Fault::UnknownTable));
-    }
-    if some_unknown(setting, statements) {
-        return Err(BindError::Refused(Fault::UnknownColumn));
-    }
-    known_batch(alloc, setting, params, batch)
+    let mut supply = supply;
+    let front = supply.fill_front(alloc, batch.slots.as_slice())?;
+    let timestamp = timestamp_or(front.timestamp, timestamp);
+    let pieces = pieces(alloc, timestamp, &mut supply, batch.changes.as_slice())?;
+    batch_of_pieces(front.fault, supply.excess(), pieces)
 }

@@ -6,4 +6,6 @@ mod commit_logs;
 #[cfg(test)]
 mod list_replicas;
 #[cfg(test)]
+mod replica_calls;
+#[cfg(test)]
 mod stores;

@@ -1,31 +1,47 @@
 //! A plain write at its coordinator, which sends it to every replica that is alive and counts the acknowledgements of
-//! distinct ones; and what the client is to be told once its deadline has come.
+//! distinct ones. It is answered at the acknowledgement that makes them enough, and waits on for the rest until its deadline.
 //! After Cassandra's documentation, "Dynamo: Tunable Consistency".
 #![tactic(auto)]
 
-ghost use Rattle.std.specs.Prelude.{◌≡◌, ◌<◌, ◌^◌, IfOk, OnErr};
-ghost use Rattle.cs_base.specs.Quorums.{heard_of as heard_of_count};
-ghost use Rattle.peer_messages.specs.Settings.{replicas_of};
+ghost use Rattle.std.specs.Prelude.{◌≡◌, ◌||◌, ◌&&◌, ◌∷◌, [], IfOk, OnErr};
+ghost use Rattle.std.specs.List.{list_all};
+ghost use Rattle.cs_base.specs.Quorums.{is_in as is_in_of, heard_of as heard_of_count};
+ghost use Rattle.changes.specs.declared.DraftMutation.{DraftMutation as drafted};
 ghost use Rattle.changes.specs.Drafts.{mutation_of};
+ghost use Rattle.peer_messages.specs.Settings.{replicas_of, up_of};
 ghost use Rattle.peer_messages.specs.declared.message.Body.TheVariants.{Write};
 ghost use Rattle.node_steps.specs.Effects.{outbound, send_to};
-ghost use Rattle.node_steps.specs.Writes.{start_write, started_write, CountsAck, HearsAck, write_at};
+ghost use Rattle.node_steps.specs.Writes.{start_write, started_write, acks_of, ack_told, HearsAck, write_told, write_at};
 
+mod heard;
+
+use crate::heard::Heard;
 use changes::{DraftMutation, Mutation, Partition};
 use cs_base::{Items, Level, Micros, NodeId, ReqId};
 use peer_messages::{
-    Body, Entry, Move, NodeIds, Outbound, Refusal, Sends, Setting, copy_nodes, heard_of,
-    is_before_deadline, nodes_up, with_heard,
+    Body, Entries, Entry, Move, Outbound, Refusal, Sends, Setting, heard_of, is_before_deadline,
+    is_in,
 };
 use std::alloc::{AllocError, Global};
 use std::marker::Model;
 
-/// A write that its coordinator has not answered: its level, its partition, and the replicas that acknowledged it.
+/// A write that its coordinator began: its level, its partition, the replicas that acknowledged it, and whether the client
+/// was answered.
 #[derive(Drop)]
 pub struct WriteCoord {
     level: Level,
     partition: Partition,
-    heard: NodeIds,
+    heard: Heard,
+    answered: bool,
+}
+
+/// What an acknowledgement makes of a write: the replicas that acknowledged it, whether they are as many as its level waits
+/// for, and whether they are all.
+#[derive(Drop)]
+struct Tally {
+    heard: Heard,
+    enough: bool,
+    settled: bool,
 }
 
 impl Model for WriteCoord {
@@ -33,7 +49,7 @@ impl Model for WriteCoord {
 
     ghost Value = { OpenWrite };
 
-    ghost view = { λ a. record { level = a.level; partition = a.partition; heard = a.heard } };
+    ghost view = { λ a. record { level = a.level; partition = a.partition; heard = a.heard; answered = a.answered } };
 }
 
 fn write_to(
@@ -52,45 +68,63 @@ fn write_to(
     })
 }
 
+/// The mutation to each of the nodes that is not marked down.
 fn write_to_all(
     alloc: Global,
     request: ReqId,
     mutation: &Mutation,
     nodes: &[NodeId],
+    down: &[NodeId],
 ) -> Result<Sends, AllocError>
-    ensures { IfOk result (λ sends. sends ≡ send_to request (Write mutation.now) nodes.now) }
+    ensures { IfOk result (λ sends. sends ≡ send_to request (Write mutation.now) (up_of down.now nodes.now)) }
 {
     let mut sends = Items::new(alloc);
     for node in nodes {
-        sends.push(write_to(alloc, request, mutation, *node)?)?;
+        if !is_in(down, *node) {
+            sends.push(write_to(alloc, request, mutation, *node)?)?;
+        }
     }
     Ok(sends)
 }
 
-/// What begins a write: it is submitted, and goes to each replica that is not marked down.
+/// Whether each of the replicas is among those heard of.
+fn are_in(replicas: &[NodeId], heard: &[NodeId]) -> bool
+    ensures { result ≡ list_all (is_in_of heard.now) replicas.now }
+{
+    replicas.iter().all(|node| is_in(heard, *node))
+}
+
+fn entered(alloc: Global, entry: Entry) -> Result<Entries, AllocError>
+    ensures { IfOk result (λ entries. entries ≡ entry ∷ []) }
+{
+    let mut entries = Items::new(alloc);
+    entries.push(entry)?;
+    Ok(entries)
+}
+
+/// What begins a write, whose mutation the request has made of a draft: it is submitted, and goes to each replica that is
+/// not marked down.
 pub fn opening(
     alloc: Global,
     setting: &Setting,
     down: &[NodeId],
     request: ReqId,
-    draft: &DraftMutation,
+    mutation: Mutation,
 ) -> Result<Move, AllocError>
-    requires { request.time < 2 ^ 63 }
-    ensures { IfOk result (λ turn. turn ≡ start_write setting.now down.now request draft.now) }
+    ensures { (draft : drafted) → mutation ≡ mutation_of request draft → IfOk result (λ turn. turn ≡ start_write setting.now down.now request draft) }
 {
-    let replicas = setting.replicas(&draft.partition);
-    let alive = nodes_up(alloc, replicas.as_slice(), down)?;
-    let mutation = draft.mutation(alloc, request)?;
-    let mut entries = Items::new(alloc);
-    entries.push(Entry::Submitted(request, mutation.copy(alloc)?))?;
+    let replicas = setting.replicas(&mutation.partition);
+    let sends = write_to_all(alloc, request, &mutation, replicas.as_slice(), down)?;
     Ok(Move {
-        sends: write_to_all(alloc, request, &mutation, alive.as_slice())?,
-        entries,
+        sends,
+        entries: entered(alloc, Entry::Submitted(request, mutation))?,
         ended: false,
     })
 }
 
 impl WriteCoord {
+    ghost use Rattle.write_coord.specs.Tallies.{IsTally};
+
     /// The write as it begins, with its [`opening`]: no replica has acknowledged it.
     pub fn start(
         alloc: Global,
@@ -102,31 +136,54 @@ impl WriteCoord {
         Ok(WriteCoord {
             level,
             partition: draft.partition.copy(alloc)?,
-            heard: Items::new(alloc),
+            heard: Heard::new(),
+            answered: false,
         })
     }
 
-    /// With so many heard of, the write waits, or is acknowledged.
-    fn count(
-        &self,
-        alloc: Global,
-        setting: &Setting,
-        request: ReqId,
-        heard: &NodeIds,
-    ) -> Result<Move, AllocError>
-        ensures { IfOk result (λ turn. CountsAck setting.now request (record self.now { heard = heard.now }) turn) }
+    /// A copy of the write, which shares no memory with it.
+    pub fn copy(&self, alloc: Global) -> Result<WriteCoord, AllocError>
+        ensures { IfOk result (λ write. write ≡ self.now) }
+    {
+        Ok(WriteCoord {
+            level: self.level,
+            partition: self.partition.copy(alloc)?,
+            heard: self.heard.copy(),
+            answered: self.answered,
+        })
+    }
+
+    /// The write behind a node's acknowledgement.
+    fn tally(&self, setting: &Setting, from: NodeId) -> Tally
+        ensures { IsTally setting.now from self.now result }
     {
         let replicas = setting.replicas(&self.partition);
         let needed = setting.needed(self.level, &self.partition);
-        if heard_of(replicas.as_slice(), heard.as_slice()) < usize::from(needed) {
-            return Ok(Move::quiet(alloc));
+        let heard = self.heard.with(replicas.as_slice(), from);
+        let received = heard_of(replicas.as_slice(), heard.as_slice());
+        let settled = are_in(replicas.as_slice(), heard.as_slice());
+        Tally {
+            heard,
+            enough: received >= usize::from(needed),
+            settled,
         }
-        let heard = copy_nodes(alloc, heard.as_slice())?;
-        Move::tells(alloc, Entry::Acked(request, self.level, heard))
+    }
+
+    /// What the client is told of the write, which has so many acknowledgements now.
+    fn told(&self, alloc: Global, request: ReqId, tally: &Tally) -> Result<Entries, AllocError>
+        ensures { IfOk result (λ entries. entries ≡ ack_told self.now.answered tally.now.enough request (record self.now { heard = tally.now.heard })) }
+    {
+        let mut entries = Items::new(alloc);
+        if tally.enough && !self.answered {
+            let heard = tally.heard.to_nodes(alloc)?;
+            entries.push(Entry::Acked(request, self.level, heard))?;
+        }
+        Ok(entries)
     }
 
     /// Takes a node's acknowledgement of the request. That of a node that is no replica, and a repeated one, count for
-    /// nothing.
+    /// nothing. The move says that the request is done with where the client was answered and each replica has acknowledged
+    /// the write. An error leaves it as it was.
     pub fn on_ack(
         &mut self,
         alloc: Global,
@@ -137,24 +194,47 @@ impl WriteCoord {
         ensures ok { IfOk result (λ turn. HearsAck setting.now request from self.old turn self.new) }
         ensures err { OnErr result (self.new ≡ self.old) }
     {
-        let replicas = setting.replicas(&self.partition);
-        let heard = with_heard(alloc, replicas.as_slice(), self.heard.as_slice(), from)?;
-        let turn = self.count(alloc, setting, request, &heard)?;
-        self.heard = heard;
-        Ok(turn)
+        let tally = self.tally(setting, from);
+        let entries = self.told(alloc, request, &tally)?;
+        self.heard = tally.heard;
+        self.answered = self.answered || tally.enough;
+        Ok(Move {
+            sends: Items::new(alloc),
+            entries,
+            ended: self.answered && tally.settled,
+        })
     }
 
     /// How many replicas have acknowledged the write.
-    fn received(&self, setting: &Setting) -> u8
-        ensures { result ≡ heard_of_count (replicas_of setting.now self.now.partition) self.now.heard }
+    fn received(&self, replicas: &[NodeId]) -> usize
+        ensures { result ≡ heard_of_count replicas.now self.now.heard }
     {
-        let replicas = setting.replicas(&self.partition);
-        // no more than the replicas, which are seven at most
-        heard_of(replicas.as_slice(), self.heard.as_slice()).min(replicas.len()) as u8
+        heard_of(replicas, self.heard.as_slice())
     }
 
-    /// What the write is told at this time: nothing before its deadline, 5 seconds after its start, and from then on how
-    /// many replicas have acknowledged it.
+    /// What a write is told whose deadline has come.
+    fn timeout(
+        &self,
+        alloc: Global,
+        setting: &Setting,
+        request: ReqId,
+    ) -> Result<Entries, AllocError>
+        ensures { IfOk result (λ entries. entries ≡ write_told setting.now request self.now) }
+    {
+        let mut entries = Items::new(alloc);
+        if !self.answered {
+            let replicas = setting.replicas(&self.partition);
+            // no more than the replicas, which are seven at most
+            let received = self.received(replicas.as_slice()).min(replicas.len()) as u8;
+            let blockfor = setting.needed(self.level, &self.partition);
+            let refusal = Refusal::WriteTimeout { received, blockfor };
+            entries.push(Entry::Refused(request, refusal))?;
+        }
+        Ok(entries)
+    }
+
+    /// What the write is told at this time: nothing before its deadline, 5 seconds after its start. From then on it is done
+    /// with, and a client that was not answered is told how many replicas have acknowledged it.
     pub fn at_time(
         &self,
         alloc: Global,
@@ -167,9 +247,10 @@ impl WriteCoord {
         if is_before_deadline(&request, time) {
             return Ok(Move::quiet(alloc));
         }
-        let received = self.received(setting);
-        let blockfor = setting.needed(self.level, &self.partition);
-        let refusal = Refusal::WriteTimeout { received, blockfor };
-        Move::tells(alloc, Entry::Refused(request, refusal))
+        Ok(Move {
+            sends: Items::new(alloc),
+            entries: self.timeout(alloc, setting, request)?,
+            ended: true,
+        })
     }
 }

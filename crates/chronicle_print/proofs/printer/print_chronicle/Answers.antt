@@ -1,30 +1,34 @@
-use Rattle.std.proofs.Common.{◌≡◌, ◌<◌, length, sym, subst, ap, ◌∙◌, take, reverse, List, arith, refl}
-use Rattle.std.proofs.lemmas.Option.{slice_get_read}
+use Rattle.std.proofs.Common.{◌≡◌, ◌<◌, ◌++◌, length, sym, subst, ap, ◌∙◌, take, reverse, List, arith, refl}
 use Rattle.std.specs.Prelude.{slice_get, Some}
+use Rattle.std.proofs.lemmas.Option.{slice_get_read}
 use Rattle.peer_messages.specs.declared.chronicle.Entry.{Entry}
-use Rattle.chronicle_print.proofs.PrinterLaws.{HasPrinted, has_begun, has_printed_on, counts_upto}
-use Rattle.chronicle_print.proofs.Lists.{front_reversed}
+use Rattle.chronicle_print.specs.Printed.{joined}
+use Rattle.chronicle_print.specs.Printing.{HasPrinted}
+use Rattle.chronicle_print.proofs.PrinterLaws.{has_begun}
+use Rattle.chronicle_print.proofs.Lists.{joined_reversed}
 use Rattle.chronicle_print.proofs.printer.print_chronicle.Goals as goal
 
-pub loop-entry-init : goal.loop-entry-init
-loop-entry-init c = record {
-  printed = has_begun c.args.tables.now c.args.entries.now c.new-printer.result c.new-printer.ensures;
-  upto = let e = c.new-printer.ensures.asked in omega (arith);
-  place = refl;
-}
+pub loop-piece-init : goal.loop-piece-init
+loop-piece-init c = record { printed = has_begun c.args.tables.now c.args.pieces.now c.new-printer.result c.new-printer.ensures; number = refl }
 
-pub loop-entry-preserved : goal.loop-entry-preserved
-loop-entry-preserved c =
-    let entries = c.args.entries.now in
-    let printer = c.loop-entry.printer in
-    let inv = c.loop-entry.invariant in
-    let index = c.loop-entry.entry-index in
-    let within : index < length entries = omega (arith) in
-    let here : slice_get entries index ≡ Some c.entry-item.result = slice_get_read entries (length entries) index c.entry-item.result refl within c.entry-item.is in
-    let there : slice_get entries c.loop-entry.place ≡ Some c.entry-item.result = ap (slice_get entries) inv.place ∙ here in
+pub take_piece-requires : goal.take_piece-requires
+take_piece-requires c =
+    let pieces = c.args.pieces.now in
+    let index = c.loop-piece.piece-index in
+    let within : index < length pieces = omega (arith) in
+    ap (slice_get pieces) c.loop-piece.invariant.number ∙ slice_get_read pieces (length pieces) index c.piece-item.result refl within c.piece-item.is ∙ ap (λ (es : List Entry). Some es) (sym c.as_slice.ensures)
+
+pub loop-piece-preserved : goal.loop-piece-preserved
+loop-piece-preserved c =
+    let pieces = c.args.pieces.now in
+    let index = c.loop-piece.piece-index in
+    let inv = c.loop-piece.invariant in
+    let within : index < length pieces = omega (arith) in
+    let before : List Entry = reverse (joined (take index pieces)) in
     record {
-      printed = subst (λ (es : List Entry). HasPrinted c.args.tables.now entries es c.take.new.self) (sym (front_reversed entries index c.entry-item.result within c.entry-item.is))
-          (has_printed_on c.args.tables.now entries c.loop-entry.place (reverse (take index entries)) c.entry-item.result printer c.take.new.self there c.in_ok-take.ensures inv.printed);
-      upto = let more = counts_upto c.args.tables.now entries c.loop-entry.place c.entry-item.result printer c.take.new.self c.in_ok-take.ensures in let before = inv.upto in omega (arith);
-      place = let same = inv.place in omega (arith, same);
+      printed =
+          subst (λ (es : List Entry). HasPrinted c.args.tables.now pieces es c.take_piece.new.self)
+          (ap (λ (es : List Entry). reverse es ++ before) c.as_slice.ensures ∙ sym (joined_reversed pieces index c.piece-item.result within c.piece-item.is))
+          (c.in_ok-take_piece.ensures before inv.printed);
+      number = let same = inv.number in omega (arith, same);
     }

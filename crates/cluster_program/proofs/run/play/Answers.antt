@@ -5,9 +5,9 @@ use Rattle.cluster_program.specs.Runs.{Plays}
 use Rattle.cluster_program.proofs.RunLaws.{plays_all}
 use Rattle.cluster_program.proofs.run.play.Goals as goal
 
-pub returns : goal.returns
-returns c =
+pub returns-clause-plays : goal.returns-clause-plays
+returns-clause-plays g c =
     let events = c.args.events.now in
     let index = c.loop-event.event-index in
     subst (λ (es : List ScriptEvent). Plays c.args.schema.now None c.args.cluster.now es c.loop-event.cluster) (take_all index events c.loop-event-test.false)
-    (plays_all c.args.schema.now c.args.cluster.now c.loop-event.cluster (take index events) c.loop-event.keyspace c.loop-event.invariant)
+    (plays_all c.args.schema.now c.args.cluster.now c.loop-event.cluster (take index events) c.loop-event.keyspace c.loop-event.invariant.0)

@@ -4,4 +4,4 @@ use Rattle.key_restrictions.proofs.places.open_place.Given as goal
 
 -- what is left to look at
 abbrev pub invariant-loop-place : goal.invariant-loop-place
-invariant-loop-place l = open_place l.columns l.restrictions ≡ open_from l.restrictions l.place (drop l.place l.columns)
+invariant-loop-place g l = open_place l.columns l.restrictions ≡ open_from l.restrictions l.place (drop l.place l.columns)

@@ -1,6 +1,11 @@
-use Rattle.partition_content.specs.Slots.{changes_of, helds_in}
-use Rattle.partition_content.proofs.PartLemmas.{IsCounted}
+use Rattle.std.proofs.Common.{◌≡◌, take}
+use Rattle.partition_content.specs.Slots.{helds_in}
+use Rattle.partition_content.proofs.PartLemmas.{AreKept}
 use Rattle.partition_content.proofs.lengths.kept_length.Given as goal
 
-abbrev pub invariant-loop-slot : goal.invariant-loop-slot
-invariant-loop-slot l = IsCounted l.changes (changes_of (helds_in l.fn.walk)) (changes_of (helds_in l.slot-iterator)) l.kept
+-- what none of those so far outranks is kept
+abbrev pub invariant-loop-x : goal.invariant-loop-x
+invariant-loop-x l = record {
+  count : l.at ≡ l.x-index;
+  kept : AreKept (take l.x-index l.changes) (helds_in l.slots.entries) l.kept;
+}

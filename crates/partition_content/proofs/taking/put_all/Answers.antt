@@ -3,9 +3,10 @@ use Rattle.std.specs.List.{sum_by}
 use Rattle.std.specs.Vec.Iter.{into_iter_items, into_iter_len}
 use Rattle.changes.specs.Lengths.{held_length}
 use Rattle.change_laws.proofs.Contents.{IsContent-itself}
-use Rattle.partition_content.specs.Slots.{changes_of, helds_in, helds_of}
+use Rattle.partition_content.specs.Slots.{changes_of, helds_in, helds_of, spots_in}
 use Rattle.partition_content.proofs.ArrivalLemmas.{come_more, come_at}
 use Rattle.partition_content.proofs.MemoryLemmas.{key_of, key_within, count_more, next_slot, split_more, content_start, content_more, sum_next, content_end, nothing_left, still_bare, front_bare, next_bare}
+use Rattle.partition_content.proofs.SweepLemmas.{noted_next}
 use Rattle.partition_content.proofs.taking.put_all.Goals as goal
 
 pub loop-x-init : goal.loop-x-init
@@ -42,6 +43,7 @@ put-length-requires c =
     record {
       keys = key_of c.args.bare c.args.keys.now c.args.changes.items c.loop-x.yielded (into_iter_items c.loop-x.x-iterator) (into_iter_items c.next.new.self) c.in-Some.x c.loop-x.at c.index-keys-at.result c.requires.keys c.loop-x.invariant.split c.in-Some.ensures.steps.0 c.loop-x.invariant.count c.index-keys-at.is;
       slot = next_slot (helds_of c.args.slots.now) (helds_of c.loop-x.slots) c.args.changes.items c.loop-x.yielded (into_iter_items c.loop-x.x-iterator) (into_iter_items c.next.new.self) c.in-Some.x c.requires.slots c.loop-x.invariant.same c.loop-x.invariant.split c.in-Some.ensures.steps.0;
+      inside = noted_next (spots_in (helds_of c.args.slots.now)) (spots_in (helds_of c.loop-x.slots)) c.noted_at.result.now c.args.changes.items c.loop-x.yielded (into_iter_items c.loop-x.x-iterator) (into_iter_items c.next.new.self) c.in-Some.x c.args.inside.now c.loop-x.at c.requires.inside c.loop-x.invariant.same c.loop-x.invariant.split c.in-Some.ensures.steps.0 c.loop-x.invariant.count c.noted_at.ensures;
       good = c.loop-x.invariant.good;
       length = c.loop-x.invariant.long;
       fits = omega (arith, next, fits, long);

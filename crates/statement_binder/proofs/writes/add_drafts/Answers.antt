@@ -3,7 +3,7 @@ use Rattle.std.specs.Vec.Iter.{into_iter_items, into_iter_len}
 use Rattle.std.proofs.lemmas.Iterator.Adapters.{YieldsList-from_vec}
 use Rattle.std.proofs.lemmas.Iterator.Consumers.{YieldsList-end}
 use Rattle.statement_binder.specs.declared.piece.Piece.{Piece}
-use Rattle.statement_binder.specs.Writes.{drafts_of}
+use Rattle.statement_binder.specs.Plans.{drafts_of}
 use Rattle.statement_binder.proofs.writes.add_drafts.Goals as goal
 
 pub returns : goal.returns

@@ -1,5 +1,5 @@
 use Rattle.std.proofs.Common.{◌≡◌, ◌++◌}
-use Rattle.statement_binder.specs.Writes.{drafts_of}
+use Rattle.statement_binder.specs.Plans.{drafts_of}
 use Rattle.statement_binder.proofs.writes.add_drafts.Given as goal
 
 abbrev pub invariant-loop-piece : goal.invariant-loop-piece

@@ -1,9 +1,21 @@
 use Rattle.std.proofs.Common.{subst}
 use Rattle.read_consistency.specs.ReadRight.{ReadRight}
-use Rattle.cluster_model.specs.State.{ClusterState}
-use Rattle.cluster_model.specs.Sites.{state_of}
-use Rattle.cluster_model.proofs.Reaching.{reached_right}
+use Rattle.cluster_model.specs.State.{ClusterState, IsReached, AreFresh}
+use Rattle.cluster_model.specs.Mails.{post_of}
+use Rattle.cluster_model.specs.Sites.{keeper}
+use Rattle.cluster_model.specs.Holding.{entries_in, first_of, state_of}
+use Rattle.cluster_model.proofs.Begun.{run_reached, reached_right}
 use Rattle.cluster_model.proofs.cluster.Cluster.chronicle.Goals as goal
 
+pub returns-clause-reached : goal.returns-clause-reached
+returns-clause-reached g c =
+    let m = keeper g.R.Replica.stands_for g.R.Replica.durable g.R.Replica.disk g.R.Replica.is_whole in
+    let p = c.self.inside.parts in
+    subst IsReached c.self.view_is (run_reached m p.setting (first_of m p.begun.items) p.seats.items (post_of p.annals.mail) (entries_in p) c.self.invariant.run)
+
 pub returns-clause-right : goal.returns-clause-right
-returns-clause-right c = subst (λ (v : ClusterState). ReadRight v.setting v.chronicle) c.self.view_is (reached_right (state_of c.self.inside.parts) c.self.invariant.reached)
+returns-clause-right g c =
+    let m = keeper g.R.Replica.stands_for g.R.Replica.durable g.R.Replica.disk g.R.Replica.is_whole in
+    let p = c.self.inside.parts in
+    subst (λ (v : ClusterState). AreFresh v.setting v.first → ReadRight v.setting v.chronicle) c.self.view_is
+    (reached_right (state_of m p) (run_reached m p.setting (first_of m p.begun.items) p.seats.items (post_of p.annals.mail) (entries_in p) c.self.invariant.run))

@@ -1,21 +1,29 @@
-use Rattle.cluster_model.specs.Sites.{state_of}
-use Rattle.cluster_model.proofs.Reaching.{either_reached, reached_right}
+use Rattle.std.proofs.Common.{subst}
+use Rattle.cluster_model.specs.State.{ClusterState, KeepsOn}
+use Rattle.cluster_model.specs.Mails.{post_of}
+use Rattle.cluster_model.specs.Sites.{keeper}
+use Rattle.cluster_model.specs.Holding.{entries_in, first_of, state_of}
+use Rattle.cluster_model.proofs.Begun.{run_reached, reached_right}
+use Rattle.cluster_model.proofs.Keeping.{either_keeps}
 use Rattle.cluster_model.proofs.cluster.Cluster.step.Goals as goal
 
-pub invariant_of-self : goal.invariant_of-self
-invariant_of-self c =
+pub returns-clause-keeps : goal.returns-clause-keeps
+returns-clause-keeps g c =
+    let m = keeper g.R.Replica.stands_for g.R.Replica.durable g.R.Replica.disk g.R.Replica.is_whole in
     let p = c.self.inside.parts in
-    let p' = c.take_event.new.self in
-    record { parts = c.take_event.ensures.holds; reached = either_reached c.take_event.result (state_of p) (state_of p') c.args.event c.self.invariant.reached c.take_event.ensures.ok c.take_event.ensures.err }
+    let q = c.take_event.new.self in
+    subst (λ (v : ClusterState). KeepsOn v (state_of m q)) c.self.view_is (either_keeps c.take_event.result (state_of m p) (state_of m q) c.args.event c.take_event.ensures.ok c.take_event.ensures.err)
 
 pub returns-clause-reached : goal.returns-clause-reached
-returns-clause-reached c =
+returns-clause-reached g c =
+    let m = keeper g.R.Replica.stands_for g.R.Replica.durable g.R.Replica.disk g.R.Replica.is_whole in
     let p = c.self.inside.parts in
-    let p' = c.take_event.new.self in
-    either_reached c.take_event.result (state_of p) (state_of p') c.args.event c.self.invariant.reached c.take_event.ensures.ok c.take_event.ensures.err
+    let q = c.take_event.new.self in
+    run_reached m q.setting (first_of m q.begun.items) q.seats.items (post_of q.annals.mail) (entries_in q) c.take_event.ensures.holds.run
 
 pub returns-clause-right : goal.returns-clause-right
-returns-clause-right c =
+returns-clause-right g c =
+    let m = keeper g.R.Replica.stands_for g.R.Replica.durable g.R.Replica.disk g.R.Replica.is_whole in
     let p = c.self.inside.parts in
-    let p' = c.take_event.new.self in
-    reached_right (state_of p') (either_reached c.take_event.result (state_of p) (state_of p') c.args.event c.self.invariant.reached c.take_event.ensures.ok c.take_event.ensures.err)
+    let q = c.take_event.new.self in
+    reached_right (state_of m q) (run_reached m q.setting (first_of m q.begun.items) q.seats.items (post_of q.annals.mail) (entries_in q) c.take_event.ensures.holds.run)

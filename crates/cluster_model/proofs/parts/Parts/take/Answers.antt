@@ -1,30 +1,42 @@
-use Rattle.std.proofs.Common.{Bool, refl, ap, subst, ◌∙◌}
-use Rattle.cluster_model.specs.State.{ClusterState}
-use Rattle.cluster_model.specs.Takes.{Comes, event_of}
-use Rattle.cluster_model.specs.Sites.{state_of, states_of, entered}
-use Rattle.cluster_model.proofs.Entering.{sites_stay, turn_small, turn_comes, with_nodes}
+use Rattle.std.proofs.Common.{rules, ◌≡◌, ℕ, Bool, List, subst, length}
+use Rattle.std.specs.List.{range_with_len}
+use Rattle.cluster_model.specs.Annals.{Enters}
+use Rattle.cluster_model.specs.Sites.{keeper, TurnsAt}
+use Rattle.cluster_model.proofs.Fits.{may_take}
+use Rattle.cluster_model.proofs.Going.{on_err}
+use Rattle.cluster_model.proofs.Whole.{took, kept_staying}
 use Rattle.cluster_model.proofs.parts.Parts.take.Goals as goal
 
-pub enter-requires-clause-holds : goal.enter-requires-clause-holds
-enter-requires-clause-holds c =
-    let p = c.reserve.new.self in
-    let holds = c.reserve.ensures.holds in
-    record {
-      few = holds.few;
-      sites = sites_stay p.setting p.nodes.items c.step_node.new.nodes.items c.args.node (event_of c.args.what) c.in_ok-turn.turn holds.sites c.in_ok-turn.ensures.ok;
-      mail = holds.mail;
-    }
+pub turn_at-requires : goal.turn_at-requires
+turn_at-requires g c =
+    let m = keeper g.R.Replica.stands_for g.R.Replica.durable g.R.Replica.disk g.R.Replica.is_whole in
+    let p = c.args.self.now in
+    λ k seat at. may_take m p.setting p.seats.items c.requires.holds.run.world.standing c.requires.holds.run.nodes k seat at
 
-pub enter-requires-clause-small : goal.enter-requires-clause-small
-enter-requires-clause-small c =
-    let p = c.reserve.new.self in
-    let holds = c.reserve.ensures.holds in
-    turn_small p.setting p.nodes.items c.step_node.new.nodes.items c.args.node (event_of c.args.what) c.in_ok-turn.turn holds.few holds.sites c.in_ok-turn.ensures.ok
+pub returns-in_err-turn-clause-holds : goal.returns-in_err-turn-clause-holds
+returns-in_err-turn-clause-holds g c =
+    let m = keeper g.R.Replica.stands_for g.R.Replica.durable g.R.Replica.disk g.R.Replica.is_whole in
+    (kept_staying m c.args.self.now c.make_room.new.self c.turn_at.new.seats c.args.node c.requires.holds c.make_room.ensures.same c.in_err-turn.ensures.err).holds
+
+pub returns-in_err-turn-clause-err : goal.returns-in_err-turn-clause-err
+returns-in_err-turn-clause-err g c =
+    let m = keeper g.R.Replica.stands_for g.R.Replica.durable g.R.Replica.disk g.R.Replica.is_whole in
+    on_err _ _ (kept_staying m c.args.self.now c.make_room.new.self c.turn_at.new.seats c.args.node c.requires.holds c.make_room.ensures.same c.in_err-turn.ensures.err).state
 
 pub returns-clause-ok : goal.returns-clause-ok
-returns-clause-ok c =
-    let p = c.reserve.new.self in
-    let after : ClusterState = state_of c.enter.new.self in
-    subst (λ (v : ClusterState). Comes v c.args.node c.args.what after) c.reserve.ensures.state
-    (turn_comes (state_of p) after p.nodes.items c.step_node.new.nodes.items c.args.node c.args.what c.in_ok-turn.turn refl c.reserve.ensures.holds.sites c.in_ok-turn.ensures.ok
-    (c.enter.ensures.state ∙ ap (λ (b : Bool). entered (with_nodes (state_of p) (states_of c.step_node.new.nodes.items)) b c.args.node c.in_ok-turn.turn) c.is_ask-is_ask.ensures))
+returns-clause-ok g c =
+    let m = keeper g.R.Replica.stands_for g.R.Replica.durable g.R.Replica.disk g.R.Replica.is_whole in
+    let p = c.args.self.now in
+    let all : c.in_ok-nodes.nodes.items ≡ range_with_len 0 (length p.setting.ring) = search rules in
+    let turns = subst (λ (nodes : List ℕ). TurnsAt m nodes p.seats.items c.args.node c.args.what c.in_ok-turn.turn c.turn_at.new.seats.items) all c.in_ok-turn.ensures.ok in
+    let enters = subst (λ (b : Bool). Enters c.args.node b c.in_ok-turn.turn c.make_room.new.self c.enter.new.self) c.is_ask-is_ask.ensures c.enter.ensures in
+    (took m p c.make_room.new.self c.enter.new.self c.turn_at.new.seats c.args.node c.args.what c.in_ok-turn.turn c.requires.holds c.make_room.ensures.same c.requires.sent turns enters).comes
+
+pub returns-clause-holds : goal.returns-clause-holds
+returns-clause-holds g c =
+    let m = keeper g.R.Replica.stands_for g.R.Replica.durable g.R.Replica.disk g.R.Replica.is_whole in
+    let p = c.args.self.now in
+    let all : c.in_ok-nodes.nodes.items ≡ range_with_len 0 (length p.setting.ring) = search rules in
+    let turns = subst (λ (nodes : List ℕ). TurnsAt m nodes p.seats.items c.args.node c.args.what c.in_ok-turn.turn c.turn_at.new.seats.items) all c.in_ok-turn.ensures.ok in
+    let enters = subst (λ (b : Bool). Enters c.args.node b c.in_ok-turn.turn c.make_room.new.self c.enter.new.self) c.is_ask-is_ask.ensures c.enter.ensures in
+    (took m p c.make_room.new.self c.enter.new.self c.turn_at.new.seats c.args.node c.args.what c.in_ok-turn.turn c.requires.holds c.make_room.ensures.same c.requires.sent turns enters).holds

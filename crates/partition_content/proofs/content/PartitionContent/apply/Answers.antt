@@ -1,15 +1,18 @@
-use Rattle.std.proofs.Common.{arith, ◌≡◌, ◌∙◌, sym, ap, subst, List, Some, map}
+use Rattle.std.proofs.Common.{arith, ◌≡◌, ◌∙◌, sym, ap, subst, List, Some, Vec, map}
 use Rattle.changes.specs.declared.Held.{Held}
 use Rattle.changes.specs.Lengths.{changes_length}
 use Rattle.partition_content.specs.declared.keys.Keys.{Keys}
 use Rattle.changes.specs.Contents.{IsMergeOf}
 use Rattle.partition_content.specs.declared.Arrived.{Arrived}
 use Rattle.partition_content.specs.Arrivals.{held_of, ComeAt}
+use Rattle.std.specs.declared.alloc.Global.{Global}
+use Rattle.partition_content.specs.declared.spots.Spot.{Spot}
+use Rattle.partition_content.specs.Inside.{AreNoted}
 use Rattle.partition_content.specs.Keys.{keys_for}
-use Rattle.partition_content.specs.Slots.{stored_of, changes_of, helds_in, helds_of}
+use Rattle.partition_content.specs.Slots.{stored_of, changes_of, helds_in, helds_of, spots_in}
 use Rattle.partition_content.specs.Partition.{Partition, changes_in, place_of, places_in, AreSlotsFor, AreBare, IsReady, AreTaken}
 use Rattle.partition_content.proofs.HeldLemmas.{changes_still, stored_changes}
-use Rattle.partition_content.proofs.MemoryLemmas.{ready_keys, ready_slots, ready_narrow, still_bare}
+use Rattle.partition_content.proofs.MemoryLemmas.{ready_keys, ready_slots, ready_inside, ready_narrow, still_bare}
 use Rattle.partition_content.proofs.content.PartitionContent.apply.Goals as goal
 
 pub put_all-self-inside-requires-clause-keys : goal.put_all-self-inside-requires-clause-keys
@@ -28,6 +31,15 @@ put_all-self-inside-requires-clause-slots c =
     ap places_in (sym was) ∙ ap (λ (p : Partition). p.ready) c.self.view_is ∙ c.requires.places in
     let taken : IsReady (helds_of c.self.inside.slots) c.in-Some.ready = subst (AreTaken (helds_of c.self.inside.slots)) was c.self.invariant.taken in
     subst (AreSlotsFor (helds_of c.self.inside.slots)) (sym c.into_changes.ensures.value) (ready_slots (helds_of c.self.inside.slots) c.in-Some.ready c.args.incoming taken ready)
+
+pub put_all-self-inside-requires-clause-inside : goal.put_all-self-inside-requires-clause-inside
+put_all-self-inside-requires-clause-inside c =
+    let was : c.self.inside.ready ≡ Some c.in-Some.ready = sym c.in-Some.ensures.value in
+    let ready : places_in (Some c.in-Some.ready) ≡ Some (map place_of c.args.incoming) =
+    ap places_in (sym was) ∙ ap (λ (p : Partition). p.ready) c.self.view_is ∙ c.requires.places in
+    let taken : IsReady (helds_of c.self.inside.slots) c.in-Some.ready = subst (AreTaken (helds_of c.self.inside.slots)) was c.self.invariant.taken in
+    subst (λ (l : List (Vec Spot Global)). AreNoted (spots_in (helds_of c.self.inside.slots)) (map place_of c.into_changes.result.items) l) (sym c.deref-in-Some.ensures.value)
+    (subst (λ (l : List Held). AreNoted (spots_in (helds_of c.self.inside.slots)) (map place_of l) c.in-Some.ready.inside.items) (sym c.into_changes.ensures.value) (ready_inside (helds_of c.self.inside.slots) c.in-Some.ready c.args.incoming taken ready))
 
 pub put_all-self-inside-requires-clause-narrow : goal.put_all-self-inside-requires-clause-narrow
 put_all-self-inside-requires-clause-narrow c =

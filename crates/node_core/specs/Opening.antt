@@ -1,0 +1,77 @@
+-- The open requests of a node, as a step changes them: what it began is put in before it is kept, and the rest behind it.
+use Rattle.std.specs.Prelude.{◌≡◌, ◌≤◌, if◌then◌else◌, ℕ, Bool, true, false, Option, List}
+use Rattle.std.specs.List.{AllByRecursion}
+use Rattle.std.specs.Map.{remove_entry}
+use Rattle.std.specs.BTreeMap.{insert_entry, is_at, IsOrdered}
+use Rattle.cs_base.specs.declared.ids.ReqId.{ReqId}
+use Rattle.cs_base.specs.Requests.{request_cmp}
+use Rattle.peer_messages.specs.declared.setting.Setting.{Setting}
+use Rattle.node_steps.specs.State.{OpenWrite, OpenRead}
+use Rattle.node_core.specs.declared.base.Base.{Base}
+use Rattle.node_core.specs.declared.opening.Opened.{Opened}
+use Rattle.node_core.specs.declared.opening.Touched.{Touched}
+use Rattle.node_core.specs.declared.slot.Slot.{Slot}
+use Rattle.node_core.specs.declared.slot.Slot.TheVariants.{Untouched, New, Old, Gone}
+use Rattle.node_core.specs.Working.{with_slot, down_with}
+
+-- ---- of one kind
+
+-- with what the step began
+abbrev pub with_begun : {A : Type 0} → ReqId → Slot A → List (ReqId × A) → List (ReqId × A)
+with_begun {A} id Untouched xs = xs
+with_begun {A} id (New a) xs = insert_entry request_cmp xs id a
+with_begun {A} id (Old a) xs = xs
+with_begun {A} id Gone xs = xs
+
+-- without it, where there is something
+abbrev pub without_begun : {A : Type 0} → ReqId → Bool → List (ReqId × A) → List (ReqId × A)
+without_begun {A} id began xs = if began then remove_entry (is_at (request_cmp id)) xs else xs
+
+-- with what it made of one that was open before
+abbrev pub with_rest : {A : Type 0} → ReqId → Slot A → List (ReqId × A) → List (ReqId × A)
+with_rest {A} id Untouched xs = xs
+with_rest {A} id (New a) xs = xs
+with_rest {A} id (Old a) xs = with_slot id (Old a) xs
+with_rest {A} id Gone xs = with_slot id Gone xs
+
+abbrev pub IsRestOf : {A : Type 0} → Slot A → Touched A → Type 0
+IsRestOf {A} Untouched t = (t.began ≡ false) × (t.rest ≡ Untouched)
+IsRestOf {A} (New a) t = (t.began ≡ true) × (t.rest ≡ Untouched)
+IsRestOf {A} (Old a) t = (t.began ≡ false) × (t.rest ≡ Old a)
+IsRestOf {A} Gone t = (t.began ≡ false) × (t.rest ≡ Gone)
+
+-- ---- of a node
+
+-- what a node has in memory, with its open requests in order
+pub record Known : Type 0 where
+  pub setting : Setting
+  pub me : ℕ
+  pub down : List ℕ
+  pub writes : List (ReqId × OpenWrite)
+  pub reads : List (ReqId × OpenRead)
+
+abbrev pub known_of : Base → Known
+known_of b = record { setting = b.setting; me = b.me; down = b.down; writes = b.writes.entries; reads = b.reads.entries }
+
+pub record AreOrdered (b : Base) : Type 0 where
+  pub writes : IsOrdered request_cmp b.writes
+  pub reads : IsOrdered request_cmp b.reads
+
+-- what the step began is put in
+pub record IsOpenedAs (id : ReqId) (w : Slot OpenWrite) (r : Slot OpenRead) (b : Base) (o : Opened) (b' : Base) : Type 0 where
+  pub known : known_of b' ≡ record (known_of b) { writes = with_begun id w b.writes.entries; reads = with_begun id r b.reads.entries }
+  pub write : IsRestOf w o.write
+  pub read : IsRestOf r o.read
+
+-- the rest is put in, and the nodes that are taken for dead
+abbrev pub known_with : ReqId → Opened → Option (List ℕ) → Base → Known
+known_with id o marked b =
+    record (known_of b) { down = down_with marked b.down; writes = with_rest id o.write.rest b.writes.entries; reads = with_rest id o.read.rest b.reads.entries }
+
+-- what the step began is taken out again
+abbrev pub known_without : ReqId → Opened → Base → Known
+known_without id o b = record (known_of b) { writes = without_begun id o.write.began b.writes.entries; reads = without_begun id o.read.began b.reads.entries }
+
+-- each of the open requests began by this time
+abbrev pub BeganBy : {A : Type 0} → ℕ → List (ReqId × A) → Type 0
+BeganBy {A} time xs = AllByRecursion (λ (x : ReqId × A). x.0.time ≤ time) xs

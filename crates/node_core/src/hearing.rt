@@ -1,0 +1,364 @@
+//! How a node hears a body in a step.
+
+ghost use Rattle.std.specs.Prelude.{◌≡◌, ◌∷◌, ◌++◌, ℕ, [], Contains, IfOk, OnOk, IsErrOf};
+ghost use Rattle.std.specs.List.{AllByRecursion};
+ghost use Rattle.std.specs.BTreeMap.{IsOrdered};
+ghost use Rattle.cs_base.specs.Faults.{HasRisen};
+ghost use Rattle.cs_base.specs.Requests.{request_cmp};
+ghost use Rattle.changes.specs.Contents.{IsContent};
+ghost use Rattle.changes.specs.Places.{AreInOrder};
+ghost use Rattle.change_laws.specs.Kept.{Within};
+ghost use Rattle.durable_state.specs.Partitions.{is_partition};
+ghost use Rattle.durable_state.specs.State.{changes_of};
+ghost use Rattle.node_steps.specs.Replicas.{IsAnswerTo};
+ghost use Rattle.row_change.specs.declared.entry.LogItem.TheVariants.{Data};
+ghost use Rattle.peer_messages.specs.declared.message.Body.TheVariants.{WriteAck};
+ghost use Rattle.node_steps.specs.Effects.{outbound};
+ghost use Rattle.node_core.specs.Working.{effects_given, IsSlotOf, IsDataAt, IsSound, BodyFits, IsOwn};
+ghost use Rattle.node_core.specs.Hearing.{AckMoves, ReplyMoves};
+ghost use Rattle.node_core.specs.Moving.{replies, AnswersBehind, IsBehind, IsBehindItem, AreBehind, IsReadFor, HasPart, TakesBody, IsHeard, GoesBy, Peeks};
+ghost use Rattle.replica.specs.declared.error.CallError.TheVariants as call_error;
+
+use crate::base::Base;
+use crate::hears::{hear_ack, hear_reply};
+use crate::times::is_old;
+use crate::work::{Given, Heard, Work};
+use cell_merge::Content;
+use changes::{Held, Helds, Mutation, Partition, Query};
+use cs_base::{Items, NodeId, ReqId};
+use peer_messages::{Body, Message, Outbound};
+use replica::{CallError, Replica};
+use row_change::LogItem;
+use std::alloc::{AllocError, Global};
+
+/// Who sent a body, and of which request it is.
+#[derive(Clone, Copy)]
+pub(crate) struct Asker {
+    pub from: NodeId,
+    pub request: ReqId,
+}
+
+impl Heard {
+    /// A body that the node sent to itself.
+    pub(crate) fn own(me: NodeId, sent: Outbound) -> Heard
+        ensures { result ≡ record { from = me; born = sent.born; request = sent.request; body = sent.body } }
+    {
+        Heard {
+            from: me,
+            born: sent.born,
+            request: sent.request,
+            body: sent.body,
+        }
+    }
+
+    /// A body that another node sent.
+    pub(crate) fn of(message: Message) -> Heard
+        ensures { result ≡ record { from = message.from; born = message.born; request = message.request; body = message.body } }
+    {
+        Heard {
+            from: message.from,
+            born: message.born,
+            request: message.request,
+            body: message.body,
+        }
+    }
+}
+
+/// What a replica holds of a query's rows.
+fn held<R: Replica>(replica: &mut R, alloc: Global, query: &Query) -> Result<Content, CallError>
+    requires whole { R.is_whole replica.old }
+    ensures ok { IfOk result (λ part. R.Disk.is_honest → IsAnswerTo (changes_of (R.durable replica.old).content) query.now part) }
+    ensures peeks { Peeks R.stands_for (λ r. R.Disk.disk (R.disk r)) R.durable R.log_end (λ r. R.Disk.faults (R.disk r)) (λ r n. R.Disk.spares (R.disk r) n) R.Disk.is_honest replica.old replica.new }
+    ensures whole { (IsErrOf result call_error.Failed → ⊥) → R.is_whole replica.new }
+    ensures failed { IsErrOf result call_error.Failed → HasRisen (R.Disk.faults (R.disk replica.old)) (R.Disk.faults (R.disk replica.new)) }
+    ensures surely { IsErrOf result call_error.Failed → ((n : ℕ) → R.Disk.spares (R.disk replica.old) n) → ⊥ }
+{
+    replica.content(alloc, &query.partition, &query.from, &query.upto)
+}
+
+fn copied(alloc: Global, changes: &[Held]) -> Result<Helds, AllocError>
+    ensures { IfOk result (λ copies. copies ≡ changes.now) }
+{
+    let mut copies = Items::new(alloc);
+    for change in changes {
+        copies.push(change.copy(alloc)?)?;
+    }
+    Ok(copies)
+}
+
+/// What of changes meets a query's rows.
+fn met(alloc: Global, changes: &[Held], query: &Query) -> Result<Content, AllocError>
+    ensures { IfOk result (λ part. IsContent part (Within query.now.from query.now.upto (Contains changes.now))) }
+{
+    let all = Content::from_changes(alloc, copied(alloc, changes)?.into_vec())?;
+    all.slice(alloc, &query.from, &query.upto)
+}
+
+fn is_one(a: &Partition, b: &Partition) -> bool
+    ensures { result ≡ is_partition a.now b.now }
+{
+    a.cmp(b).is_eq()
+}
+
+/// What is held of a query's rows behind changes that are taken in.
+fn behind(
+    alloc: Global,
+    part: Content,
+    mutation: &Mutation,
+    query: &Query,
+) -> Result<Content, AllocError>
+    ensures { IfOk result (λ all. IsBehind mutation.now query.now part all) }
+{
+    if is_one(&mutation.partition, &query.partition) {
+        let more = met(alloc, mutation.changes.as_slice(), query)?;
+        return part.merge(alloc, more);
+    }
+    Ok(part)
+}
+
+/// What is held of a query's rows behind an item.
+fn behind_item(
+    alloc: Global,
+    part: Content,
+    item: &LogItem,
+    query: &Query,
+) -> Result<Content, AllocError>
+    ensures { IfOk result (λ all. IsBehindItem item.now query.now part all) }
+{
+    match item {
+        LogItem::Data(_, mutation) => behind(alloc, part, mutation, query),
+        LogItem::Paxos(..)
+        | LogItem::HintAdd(_)
+        | LogItem::HintGone(..)
+        | LogItem::Ceiling(_)
+        | LogItem::Mark(_)
+        | LogItem::Purge(_) => Ok(part),
+    }
+}
+
+/// What is held of a query's rows behind all of the changes that the step takes in, in order.
+fn behind_all(
+    alloc: Global,
+    part: Content,
+    items: &[LogItem],
+    query: &Query,
+) -> Result<Content, AllocError>
+    ensures ok { IfOk result (λ all. AreBehind items.now query.now part all) }
+    ensures ordered { IfOk result (λ all. AreInOrder all) }
+{
+    let mut all = part;
+    for item in items {
+        all = behind_item(alloc, all, item, query)?;
+    }
+    Ok(in_order(all))
+}
+
+/// The changes of a content are in order.
+fn in_order(content: Content) -> Content
+    ensures same { result ≡ content }
+    ensures ordered { AreInOrder result }
+{
+    let _changes = content.as_slice();
+    content
+}
+
+/// All that is held of a query's rows behind the changes that the step takes in.
+fn answer<R: Replica>(
+    replica: &mut R,
+    alloc: Global,
+    items: &[LogItem],
+    query: &Query,
+) -> Result<Content, CallError>
+    requires whole { R.is_whole replica.old }
+    requires items { (time : _) × AllByRecursion (IsDataAt time) items.now }
+    ensures ok { IfOk result (λ part. R.Disk.is_honest → AnswersBehind items.now (R.durable replica.old) query.now part) }
+    ensures peeks { Peeks R.stands_for (λ r. R.Disk.disk (R.disk r)) R.durable R.log_end (λ r. R.Disk.faults (R.disk r)) (λ r n. R.Disk.spares (R.disk r) n) R.Disk.is_honest replica.old replica.new }
+    ensures whole { (IsErrOf result call_error.Failed → ⊥) → R.is_whole replica.new }
+    ensures failed { IsErrOf result call_error.Failed → HasRisen (R.Disk.faults (R.disk replica.old)) (R.Disk.faults (R.disk replica.new)) }
+    ensures surely { IsErrOf result call_error.Failed → ((n : ℕ) → R.Disk.spares (R.disk replica.old) n) → ⊥ }
+{
+    let part = held(replica, alloc, query)?;
+    Ok(behind_all(alloc, part, items, query)?)
+}
+
+/// What a body is answered with, if it asks what is held.
+fn read_for<R: Replica>(
+    replica: &mut R,
+    alloc: Global,
+    items: &[LogItem],
+    body: &Body,
+) -> Result<Option<Content>, CallError>
+    requires whole { R.is_whole replica.old }
+    requires items { (time : _) × AllByRecursion (IsDataAt time) items.now }
+    ensures ok { IfOk result (λ part. R.Disk.is_honest → IsReadFor items.now (R.durable replica.old) body.now part) }
+    ensures there { IfOk result (λ part. HasPart body.now part) }
+    ensures peeks { Peeks R.stands_for (λ r. R.Disk.disk (R.disk r)) R.durable R.log_end (λ r. R.Disk.faults (R.disk r)) (λ r n. R.Disk.spares (R.disk r) n) R.Disk.is_honest replica.old replica.new }
+    ensures whole { (IsErrOf result call_error.Failed → ⊥) → R.is_whole replica.new }
+    ensures failed { IsErrOf result call_error.Failed → HasRisen (R.Disk.faults (R.disk replica.old)) (R.Disk.faults (R.disk replica.new)) }
+    ensures surely { IsErrOf result call_error.Failed → ((n : ℕ) → R.Disk.spares (R.disk replica.old) n) → ⊥ }
+{
+    match body {
+        Body::Read(query) => Ok(Some(answer(replica, alloc, items, query)?)),
+        Body::Write(_) | Body::WriteAck | Body::ReadReply(_) => Ok(None),
+    }
+}
+
+/// The body on its way back to who asked.
+fn sent_back(asker: Asker, body: Body) -> Outbound
+    ensures { result ≡ outbound asker.request body asker.from }
+{
+    let request = asker.request;
+    Outbound {
+        upto: asker.from,
+        born: request.time,
+        request,
+        body,
+    }
+}
+
+/// The body goes back to who asked.
+fn reply(alloc: Global, asker: Asker, body: Body) -> Result<Given, AllocError>
+    ensures { IfOk result (λ given. effects_given given ≡ replies asker body) }
+{
+    let mut sends = Items::new(alloc);
+    sends.push(sent_back(asker, body))?;
+    Ok(Given {
+        sends,
+        entries: Items::new(alloc),
+    })
+}
+
+impl Work {
+    /// Takes changes in: they are kept with the step, and acknowledged.
+    fn hear_write(
+        &mut self,
+        alloc: Global,
+        asker: Asker,
+        mutation: Mutation,
+    ) -> Result<Given, AllocError>
+        ensures { IfOk result (λ given. (effects_given given ≡ replies asker WriteAck) × (self.new ≡ record self.old { items = self.old.items ++ Data self.old.time mutation ∷ [] })) }
+    {
+        self.items.push(LogItem::Data(self.time, mutation))?;
+        reply(alloc, asker, Body::WriteAck)
+    }
+
+    fn hear_ack(&mut self, base: &Base, alloc: Global, asker: Asker) -> Result<Given, AllocError>
+        requires ordered { IsOrdered request_cmp base.now.writes }
+        requires slot { IsSlotOf asker.request base.now.writes.entries self.old.write }
+        ensures { IfOk result (λ given. AckMoves base.now.setting asker.request asker.from base.now.writes.entries self.old.write given self.new.write × (self.new ≡ record self.old { write = self.new.write })) }
+    {
+        let slot = &mut self.write;
+        hear_ack(
+            &base.writes,
+            slot,
+            alloc,
+            &base.setting,
+            asker.request,
+            asker.from,
+        )
+    }
+
+    fn hear_reply(
+        &mut self,
+        base: &Base,
+        alloc: Global,
+        asker: Asker,
+        content: Content,
+    ) -> Result<Given, AllocError>
+        requires ordered { IsOrdered request_cmp base.now.reads }
+        requires slot { IsSlotOf asker.request base.now.reads.entries self.old.read }
+        ensures { IfOk result (λ given. ReplyMoves base.now.setting asker.request asker.from content base.now.reads.entries self.old.read given self.new.read × (self.new ≡ record self.old { read = self.new.read })) }
+    {
+        let slot = &mut self.read;
+        hear_reply(
+            &base.reads,
+            slot,
+            alloc,
+            &base.setting,
+            asker.request,
+            asker.from,
+            content,
+        )
+    }
+
+    /// Takes a body, by what came; `part` is what is held of what it asks.
+    fn hear_body(
+        &mut self,
+        base: &Base,
+        alloc: Global,
+        asker: Asker,
+        body: Body,
+        part: Option<Content>,
+    ) -> Result<Given, AllocError>
+        requires writes { IsOrdered request_cmp base.now.writes }
+        requires reads { IsOrdered request_cmp base.now.reads }
+        requires write { IsSlotOf asker.request base.now.writes.entries self.old.write }
+        requires read { IsSlotOf asker.request base.now.reads.entries self.old.read }
+        requires part { HasPart body part }
+        ensures { IfOk result (λ given. TakesBody base.now self.old asker body part given self.new) }
+    {
+        match (body, part) {
+            (Body::Write(mutation), _) => self.hear_write(alloc, asker, mutation),
+            (Body::WriteAck, _) => self.hear_ack(base, alloc, asker),
+            (Body::Read(_), Some(part)) => reply(alloc, asker, Body::ReadReply(part)),
+            (Body::Read(_), None) => unreachable!(),
+            (Body::ReadReply(content), _) => self.hear_reply(base, alloc, asker, content),
+        }
+    }
+}
+
+/// Hears a body, unless it is too old.
+pub(crate) fn hear<R: Replica>(
+    base: &Base,
+    replica: &mut R,
+    alloc: Global,
+    work: &mut Work,
+    heard: Heard,
+) -> Result<Given, CallError>
+    requires whole { R.is_whole replica.old }
+    requires writes { IsOrdered request_cmp base.now.writes }
+    requires reads { IsOrdered request_cmp base.now.reads }
+    requires sound { IsSound base.now work.old }
+    requires request { heard.request ≡ work.old.request }
+    requires fits { BodyFits heard.body }
+    ensures ok { IfOk result (λ given. IsHeard base.now R.Disk.is_honest (R.durable replica.old) work.old heard given work.new) }
+    ensures same { IsErrOf result call_error.Failed → work.new ≡ work.old }
+    ensures peeks { Peeks R.stands_for (λ r. R.Disk.disk (R.disk r)) R.durable R.log_end (λ r. R.Disk.faults (R.disk r)) (λ r n. R.Disk.spares (R.disk r) n) R.Disk.is_honest replica.old replica.new }
+    ensures whole { (IsErrOf result call_error.Failed → ⊥) → R.is_whole replica.new }
+    ensures failed { IsErrOf result call_error.Failed → HasRisen (R.Disk.faults (R.disk replica.old)) (R.Disk.faults (R.disk replica.new)) }
+    ensures surely { IsErrOf result call_error.Failed → ((n : ℕ) → R.Disk.spares (R.disk replica.old) n) → ⊥ }
+{
+    if is_old(&base.setting, work.time, heard.born) {
+        return Ok(Given::nothing(alloc));
+    }
+    let part = read_for(replica, alloc, work.items.as_slice(), &heard.body)?;
+    let asker = Asker {
+        from: heard.from,
+        request: heard.request,
+    };
+    Ok(work.hear_body(base, alloc, asker, heard.body, part)?)
+}
+
+/// Hears a body that the node sent to itself, which was taken from the queue.
+pub(crate) fn hear_own<R: Replica>(
+    base: &Base,
+    replica: &mut R,
+    alloc: Global,
+    work: &mut Work,
+    sent: Outbound,
+) -> Result<(), CallError>
+    requires whole { R.is_whole replica.old }
+    requires writes { IsOrdered request_cmp base.now.writes }
+    requires reads { IsOrdered request_cmp base.now.reads }
+    requires sound { IsSound base.now work.old }
+    requires own { IsOwn base.now.me work.old.request sent }
+    ensures ok { OnOk result (GoesBy base.now R.Disk.is_honest (R.durable replica.old) sent work.old work.new) }
+    ensures same { IsErrOf result call_error.Failed → work.new ≡ work.old }
+    ensures peeks { Peeks R.stands_for (λ r. R.Disk.disk (R.disk r)) R.durable R.log_end (λ r. R.Disk.faults (R.disk r)) (λ r n. R.Disk.spares (R.disk r) n) R.Disk.is_honest replica.old replica.new }
+    ensures whole { (IsErrOf result call_error.Failed → ⊥) → R.is_whole replica.new }
+    ensures failed { IsErrOf result call_error.Failed → HasRisen (R.Disk.faults (R.disk replica.old)) (R.Disk.faults (R.disk replica.new)) }
+    ensures surely { IsErrOf result call_error.Failed → ((n : ℕ) → R.Disk.spares (R.disk replica.old) n) → ⊥ }
+{
+    let given = hear(base, replica, alloc, work, Heard::own(base.me, sent))?;
+    Ok(work.give(base.me, given)?)
+}

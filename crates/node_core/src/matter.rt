@@ -1,0 +1,177 @@
+//! What a step makes of its event, in memory: the event's own matter, and all that comes of it at the node itself.
+
+ghost use Rattle.std.specs.Prelude.{◌≡◌, ◌<◌, ◌≤◌, ◌^◌, ℕ, [], IfOk, OnOk, IsErrOf};
+ghost use Rattle.std.specs.BTreeMap.{IsOrdered};
+ghost use Rattle.cs_base.specs.Faults.{HasRisen};
+ghost use Rattle.cs_base.specs.Requests.{request_cmp};
+ghost use Rattle.node_steps.specs.Steps.{heard_matter, matter_of};
+ghost use Rattle.node_core.specs.Working.{IsSound};
+ghost use Rattle.node_core.specs.Asking.{IsFresh};
+ghost use Rattle.node_core.specs.Moving.{TakesMatters, MarksAs, AskNothing, IsSettled, CutsOn, IsWorkedOut, CutsIn, IsAbout, IsNewTo, Peeks};
+ghost use Rattle.replica.specs.declared.error.CallError.TheVariants as call_error;
+
+use crate::base::Base;
+use crate::fits::{mark_fits, message_fits};
+use crate::hearing::{hear, hear_own};
+use crate::slot::Slot;
+use crate::work::{Given, Heard, Work};
+use cs_base::{Items, Micros, NodeId, ReqId};
+use peer_messages::{Message, What, marked};
+use replica::{CallError, Replica};
+use std::alloc::{AllocError, Global};
+use std::collections::VecDeque;
+
+/// The request that a step is about.
+pub(crate) fn request_of(me: NodeId, time: Micros, what: &What) -> ReqId
+    ensures { IsAbout me time what.now result }
+{
+    match what {
+        What::Deliver(message) => message.request,
+        What::Client(_) | What::Alive(..) | What::Flush | What::Tick => ReqId { node: me, time },
+    }
+}
+
+impl Work {
+    /// A step that has made nothing yet.
+    pub(crate) fn new(alloc: Global, time: Micros, ceiling: Micros, request: ReqId) -> Work
+        ensures fresh { IsFresh result }
+        ensures times { (result.time ≡ time) × (result.ceiling ≡ ceiling) × (result.request ≡ request) }
+    {
+        Work {
+            time,
+            ceiling,
+            request,
+            marked: None,
+            write: Slot::Untouched,
+            read: Slot::Untouched,
+            items: Items::new(alloc),
+            messages: Items::new(alloc),
+            entries: Items::new(alloc),
+            queue: VecDeque::new(alloc),
+        }
+    }
+
+    /// Marks a node, which changes nothing else.
+    fn mark(
+        &mut self,
+        base: &Base,
+        alloc: Global,
+        peer: NodeId,
+        up: bool,
+    ) -> Result<Given, AllocError>
+        ensures { IfOk result (λ given. MarksAs base.now peer up self.old given self.new) }
+    {
+        if mark_fits(&base.setting, base.me, peer) {
+            self.marked = Some(marked(alloc, base.down.as_slice(), peer, up)?);
+        }
+        Ok(Given::nothing(alloc))
+    }
+}
+
+/// Takes a message of another node, unless it does not fit.
+fn take_message<R: Replica>(
+    base: &Base,
+    replica: &mut R,
+    alloc: Global,
+    work: &mut Work,
+    message: Message,
+) -> Result<Given, CallError>
+    requires whole { R.is_whole replica.old }
+    requires writes { IsOrdered request_cmp base.now.writes }
+    requires reads { IsOrdered request_cmp base.now.reads }
+    requires fresh { IsFresh work.old }
+    requires request { message.request ≡ work.old.request }
+    ensures ok { IfOk result (λ given. TakesMatters base.now R.Disk.is_honest (R.durable replica.old) work.old (heard_matter base.now.setting base.now.me message) given work.new) }
+    ensures same { IsErrOf result call_error.Failed → work.new ≡ work.old }
+    ensures peeks { Peeks R.stands_for (λ r. R.Disk.disk (R.disk r)) R.durable R.log_end (λ r. R.Disk.faults (R.disk r)) (λ r n. R.Disk.spares (R.disk r) n) R.Disk.is_honest replica.old replica.new }
+    ensures whole { (IsErrOf result call_error.Failed → ⊥) → R.is_whole replica.new }
+    ensures failed { IsErrOf result call_error.Failed → HasRisen (R.Disk.faults (R.disk replica.old)) (R.Disk.faults (R.disk replica.new)) }
+    ensures surely { IsErrOf result call_error.Failed → ((n : ℕ) → R.Disk.spares (R.disk replica.old) n) → ⊥ }
+{
+    if !message_fits(&base.setting, base.me, &message) {
+        return Ok(Given::nothing(alloc));
+    }
+    hear(base, replica, alloc, work, Heard::of(message))
+}
+
+/// Takes the event's own matter, if it has one.
+fn take<R: Replica>(
+    base: &Base,
+    replica: &mut R,
+    alloc: Global,
+    work: &mut Work,
+    what: What,
+) -> Result<Given, CallError>
+    requires whole { R.is_whole replica.old }
+    requires writes { IsOrdered request_cmp base.now.writes }
+    requires reads { IsOrdered request_cmp base.now.reads }
+    requires fresh { IsFresh work.old }
+    requires about { IsAbout base.now.me work.old.time what work.old.request }
+    requires new { IsNewTo base.now work.old.time }
+    requires time { work.old.time < 2 ^ 63 }
+    ensures ok { IfOk result (λ given. TakesMatters base.now R.Disk.is_honest (R.durable replica.old) work.old (matter_of base.now.setting base.now.me what) given work.new) }
+    ensures same { IsErrOf result call_error.Failed → work.new ≡ work.old }
+    ensures asks { IsErrOf result call_error.Failed → AskNothing (matter_of base.now.setting base.now.me what) }
+    ensures peeks { Peeks R.stands_for (λ r. R.Disk.disk (R.disk r)) R.durable R.log_end (λ r. R.Disk.faults (R.disk r)) (λ r n. R.Disk.spares (R.disk r) n) R.Disk.is_honest replica.old replica.new }
+    ensures whole { (IsErrOf result call_error.Failed → ⊥) → R.is_whole replica.new }
+    ensures failed { IsErrOf result call_error.Failed → HasRisen (R.Disk.faults (R.disk replica.old)) (R.Disk.faults (R.disk replica.new)) }
+    ensures surely { IsErrOf result call_error.Failed → ((n : ℕ) → R.Disk.spares (R.disk replica.old) n) → ⊥ }
+{
+    match what {
+        What::Client(ask) => Ok(work.ask(base, alloc, ask)?),
+        What::Deliver(message) => take_message(base, replica, alloc, work, message),
+        What::Alive(peer, up) => Ok(work.mark(base, alloc, peer, up)?),
+        What::Flush | What::Tick => Ok(Given::nothing(alloc)),
+    }
+}
+
+/// Hears all that the node sends to itself, in order.
+fn settle<R: Replica>(
+    base: &Base,
+    replica: &mut R,
+    alloc: Global,
+    work: &mut Work,
+) -> Result<(), CallError>
+    requires whole { R.is_whole replica.old }
+    requires writes { IsOrdered request_cmp base.now.writes }
+    requires reads { IsOrdered request_cmp base.now.reads }
+    requires sound { IsSound base.now work.old }
+    ensures ok { OnOk result (IsSettled base.now R.Disk.is_honest (R.durable replica.old) work.old work.new) }
+    ensures cut { IsErrOf result call_error.Failed → CutsOn base.now work.old work.new }
+    ensures peeks { Peeks R.stands_for (λ r. R.Disk.disk (R.disk r)) R.durable R.log_end (λ r. R.Disk.faults (R.disk r)) (λ r n. R.Disk.spares (R.disk r) n) R.Disk.is_honest replica.old replica.new }
+    ensures whole { (IsErrOf result call_error.Failed → ⊥) → R.is_whole replica.new }
+    ensures failed { IsErrOf result call_error.Failed → HasRisen (R.Disk.faults (R.disk replica.old)) (R.Disk.faults (R.disk replica.new)) }
+    ensures surely { IsErrOf result call_error.Failed → ((n : ℕ) → R.Disk.spares (R.disk replica.old) n) → ⊥ }
+{
+    while let Some(sent) = work.queue.pop_front() {
+        hear_own(base, replica, alloc, work, sent)?;
+    }
+    Ok(())
+}
+
+/// Takes the event's own matter, and all that comes of it at the node itself.
+pub(crate) fn work_out<R: Replica>(
+    base: &Base,
+    replica: &mut R,
+    alloc: Global,
+    work: &mut Work,
+    what: What,
+) -> Result<(), CallError>
+    requires whole { R.is_whole replica.old }
+    requires writes { IsOrdered request_cmp base.now.writes }
+    requires reads { IsOrdered request_cmp base.now.reads }
+    requires fresh { IsFresh work.old }
+    requires about { IsAbout base.now.me work.old.time what work.old.request }
+    requires new { IsNewTo base.now work.old.time }
+    requires time { work.old.time < 2 ^ 63 }
+    ensures ok { OnOk result (IsWorkedOut base.now R.Disk.is_honest (R.durable replica.old) (matter_of base.now.setting base.now.me what) work.old work.new) }
+    ensures cut { IsErrOf result call_error.Failed → R.Disk.is_honest → CutsIn base.now (R.durable replica.old) (matter_of base.now.setting base.now.me what) work.old work.new }
+    ensures peeks { Peeks R.stands_for (λ r. R.Disk.disk (R.disk r)) R.durable R.log_end (λ r. R.Disk.faults (R.disk r)) (λ r n. R.Disk.spares (R.disk r) n) R.Disk.is_honest replica.old replica.new }
+    ensures whole { (IsErrOf result call_error.Failed → ⊥) → R.is_whole replica.new }
+    ensures failed { IsErrOf result call_error.Failed → HasRisen (R.Disk.faults (R.disk replica.old)) (R.Disk.faults (R.disk replica.new)) }
+    ensures surely { IsErrOf result call_error.Failed → ((n : ℕ) → R.Disk.spares (R.disk replica.old) n) → ⊥ }
+{
+    let given = take(base, replica, alloc, work, what)?;
+    work.give(base.me, given)?;
+    settle(base, replica, alloc, work)
+}

@@ -1,0 +1,277 @@
+//! What a node has in memory, and how it takes an event: all that the event makes is made first, then kept, and only then taken
+//! into memory.
+
+ghost use Rattle.std.specs.Prelude.{◌≡◌, ◌≤◌, ◌<◌, ◌^◌, ◌++◌, ℕ, length, IfOk, OnOk, OnErr, IsErrOf};
+ghost use Rattle.cs_base.specs.Faults.{HasRisen};
+ghost use Rattle.peer_messages.specs.declared.event.Event.{Event as event_value};
+ghost use Rattle.durable_state.specs.Keeping.{Commits, IsWithOrWithout};
+ghost use Rattle.node_steps.specs.Keeping.{ceiling_in};
+ghost use Rattle.node_steps.specs.Steps.{risen_time, end_of_time};
+ghost use Rattle.node_steps.specs.Stops.{remains};
+ghost use Rattle.replica.specs.Finding.{AlwaysLeaves};
+ghost use Rattle.replica.specs.Kept.{IsKeptOf};
+ghost use Rattle.replica.specs.Lengths.{IsFirstTooLarge};
+ghost use Rattle.node_core.specs.Nodes.{Steps, HasNoRoom, IsTooLarge, Halts, IsBeforeOrBehind, OverflowsLog};
+ghost use Rattle.node_core.specs.Working.{IsSound};
+ghost use Rattle.node_core.specs.Opening.{AreOrdered};
+ghost use Rattle.node_core.specs.Memory.{core_of, core_behind, entry_made, is_flush, AreOutputsOf, HoldsCore, IsBegun, IsLost, IsRefusal};
+ghost use Rattle.node_core.specs.declared.outcome.StepError.TheVariants as step_error;
+
+use crate::base::Base;
+use crate::keep::commit;
+use crate::matter::{request_of, work_out};
+use crate::outcome::{Lost, StepError};
+use crate::times::{is_refused, looked, raised, request_began, risen};
+use crate::work::Work;
+use cs_base::{Items, Micros, ReqId};
+use peer_messages::{Entries, Event, Outputs, What};
+use replica::{CallError, Kept, Replica, RoomError};
+use row_change::{LogEntry, LogItem};
+use std::alloc::{AllocError, Global};
+
+/// What a node has in memory.
+#[derive(Drop)]
+pub(crate) struct Memory {
+    pub base: Base,
+    /// The time to which its last step rose, or at which it was loaded.
+    pub time: Micros,
+    /// What it keeps beside the contents of partitions.
+    pub kept: Kept,
+}
+
+/// What a step has made, and what its outputs have beside.
+#[derive(Drop)]
+pub(crate) struct Made {
+    pub work: Work,
+    pub started: Option<ReqId>,
+    pub refused: bool,
+    pub flushes: bool,
+}
+
+/// A step that begins: what of its event the node looks at, and what it has made, which is nothing yet.
+#[derive(Drop)]
+pub(crate) struct Begun {
+    pub what: What,
+    pub made: Made,
+}
+
+fn is_flush(what: &What) -> bool
+    ensures { result ≡ is_flush what.now }
+{
+    matches!(what, What::Flush)
+}
+
+/// What a step keeps: the changes that it takes in, and its ceiling where that is raised.
+fn entry_of(
+    mut items: Items<LogItem>,
+    before: Micros,
+    after: Micros,
+) -> Result<LogEntry, AllocError>
+    ensures { IfOk result (λ entry. entry.items ≡ items ++ ceiling_in before after) }
+{
+    if before != after {
+        items.push(LogItem::Ceiling(after))?;
+    }
+    Ok(LogEntry { items })
+}
+
+/// What a node tells where its replica refuses an entry.
+fn refusal(error: RoomError, started: Option<ReqId>, entries: Entries) -> StepError
+    ensures { IsRefusal error started entries result }
+{
+    match error {
+        RoomError::Failed => StepError::Failed(Lost { started, entries }),
+        RoomError::TooLarge(partition) => StepError::TooLarge(partition),
+        RoomError::NoRoom => StepError::NoRoom,
+        RoomError::NoMemory => StepError::NoMemory,
+    }
+}
+
+impl Memory {
+    /// A step at this time.
+    fn begin(&self, alloc: Global, time: Micros, event: Event) -> Begun
+        requires time { time ≤ end_of_time }
+        ensures { IsBegun self.now time event result }
+    {
+        let base = &self.base;
+        let refused = is_refused(&base.setting, self.time, time, &event);
+        let started = request_began(base.me, time, &event.what);
+        let flushes = is_flush(&event.what);
+        let ceiling = raised(self.kept.ceiling, time);
+        let what = looked(self.time, event);
+        let request = request_of(base.me, time, &what);
+        Begun {
+            what,
+            made: Made {
+                work: Work::new(alloc, time, ceiling, request),
+                started,
+                refused,
+                flushes,
+            },
+        }
+    }
+}
+
+impl Made {
+    /// What the node tells that stops in the step.
+    fn lost(self) -> Lost
+        ensures { IsLost self.started self.work.entries result }
+    {
+        let Made { work, started, .. } = self;
+        Lost {
+            started,
+            entries: work.entries,
+        }
+    }
+}
+
+/// Keeps what a step has made, and only then changes what is in memory.
+fn keep_made<R: Replica>(
+    memory: &mut Memory,
+    replica: &mut R,
+    alloc: Global,
+    made: Made,
+) -> Result<Outputs, StepError>
+    requires whole { R.is_whole replica.old }
+    requires ordered { AreOrdered memory.old.base }
+    requires sound { IsSound memory.old.base made.work }
+    requires few { length made.work.items ≤ 2 }
+    requires kept { R.Disk.is_honest → IsKeptOf (R.durable replica.old) memory.old.kept }
+
+    ensures outputs { IfOk result (λ outputs. AreOutputsOf made outputs) }
+    ensures ok { OnOk result (R.Disk.is_honest → Commits (entry_made memory.old made.work) (R.durable replica.old) (R.durable replica.new)) }
+    ensures behind { OnOk result (core_of memory.new ≡ core_behind memory.old made.work) }
+    ensures back { OnErr result (core_of memory.new ≡ core_of memory.old) }
+    ensures ordered { AreOrdered memory.new.base }
+    ensures whole { ((l : _) → IsErrOf result (step_error.Failed l) → ⊥) → R.is_whole replica.new }
+    ensures same { OnErr result (((l : _) → IsErrOf result (step_error.Failed l) → ⊥) → R.Disk.is_honest → R.durable replica.new ≡ R.durable replica.old) }
+    ensures too_large { (p : _) → IsErrOf result (step_error.TooLarge p) → R.Disk.is_honest → IsFirstTooLarge (entry_made memory.old made.work) (R.durable replica.old) p }
+    ensures no_room { IsErrOf result step_error.NoRoom → R.Disk.is_honest → OverflowsLog (R.log_end replica.old) (R.durable replica.old) (entry_made memory.old made.work) }
+    ensures lost { (l : _) → IsErrOf result (step_error.Failed l) → IsLost made.started made.work.entries l }
+    ensures failed { (l : _) → IsErrOf result (step_error.Failed l) → HasRisen (R.Disk.faults (R.disk replica.old)) (R.Disk.faults (R.disk replica.new)) }
+    ensures faults { R.Disk.faults (R.disk replica.old) ≤ R.Disk.faults (R.disk replica.new) }
+    ensures surely { (l : _) → IsErrOf result (step_error.Failed l) → ((n : ℕ) → R.Disk.spares (R.disk replica.old) n) → ⊥ }
+    ensures spared { ((n : ℕ) → R.Disk.spares (R.disk replica.old) n) → (n : ℕ) → R.Disk.spares (R.disk replica.new) n }
+
+    // A crash at any moment leaves what was kept before the call, with the entry or without.
+    ensures any_moment { R.Disk.is_honest → AlwaysLeaves R.stands_for (IsWithOrWithout (entry_made memory.old made.work) (R.durable replica.old)) (R.Disk.disk (R.disk replica.old)) (R.Disk.disk (R.disk replica.new)) }
+{
+    let Made {
+        work,
+        started,
+        refused,
+        flushes,
+    } = made;
+    let Work {
+        time,
+        ceiling,
+        request,
+        marked,
+        write,
+        read,
+        items,
+        messages,
+        entries,
+        queue: _heard,
+    } = work;
+    let entry = entry_of(items, memory.kept.ceiling, ceiling)?;
+    let opened = memory.base.put_begun(request, write, read)?;
+    match commit(
+        &mut memory.kept,
+        replica,
+        alloc,
+        &entry,
+        time,
+        ceiling,
+        flushes,
+    ) {
+        Ok(tables) => {
+            memory.base.put_rest(&request, opened, marked);
+            memory.time = time;
+            Ok(Outputs {
+                time,
+                started,
+                sends: messages,
+                entries,
+                tables,
+                refused,
+            })
+        }
+        Err(error) => {
+            memory.base.take_begun(&request, &opened);
+            Err(refusal(error, started, entries))
+        }
+    }
+}
+
+/// Takes an event at this time.
+fn step_at<R: Replica>(
+    memory: &mut Memory,
+    replica: &mut R,
+    alloc: Global,
+    time: Micros,
+    event: Event,
+) -> Result<Outputs, StepError>
+    requires whole { R.is_whole replica.old }
+    requires held { HoldsCore memory.old.base memory.old.time }
+    requires tied { R.Disk.is_honest → IsKeptOf (R.durable replica.old) memory.old.kept }
+    requires time { time ≡ risen_time memory.old.time event }
+    requires within { time ≤ end_of_time }
+
+    ensures ok { IfOk result (λ outputs. R.Disk.is_honest → Steps (core_of memory.old) (R.durable replica.old) event outputs (core_of memory.new) (R.durable replica.new)) }
+    ensures held { HoldsCore memory.new.base memory.new.time }
+    ensures tied { ((l : _) → IsErrOf result (step_error.Failed l) → ⊥) → R.Disk.is_honest → IsKeptOf (R.durable replica.new) memory.new.kept }
+    ensures whole { ((l : _) → IsErrOf result (step_error.Failed l) → ⊥) → R.is_whole replica.new }
+    ensures back { OnErr result (core_of memory.new ≡ core_of memory.old) }
+    ensures same { OnErr result (((l : _) → IsErrOf result (step_error.Failed l) → ⊥) → R.Disk.is_honest → R.durable replica.new ≡ R.durable replica.old) }
+    ensures no_room { IsErrOf result step_error.NoRoom → R.Disk.is_honest → HasNoRoom (core_of memory.old) (R.durable replica.old) (R.log_end replica.old) event }
+    ensures too_large { (p : _) → IsErrOf result (step_error.TooLarge p) → R.Disk.is_honest → IsTooLarge (core_of memory.old) (R.durable replica.old) event p }
+    ensures cause { (l : _) → IsErrOf result (step_error.Failed l) → HasRisen (R.Disk.faults (R.disk replica.old)) (R.Disk.faults (R.disk replica.new)) }
+    ensures surely { (l : _) → IsErrOf result (step_error.Failed l) → ((n : ℕ) → R.Disk.spares (R.disk replica.old) n) → ⊥ }
+    ensures spared { ((n : ℕ) → R.Disk.spares (R.disk replica.old) n) → (n : ℕ) → R.Disk.spares (R.disk replica.new) n }
+    ensures halts { (l : _) → IsErrOf result (step_error.Failed l) → R.Disk.is_honest → Halts (core_of memory.old) (R.durable replica.old) event (remains l.started l.entries) R.stands_for (R.Disk.disk (R.disk replica.new)) }
+
+    // A crash at any moment of the step leaves what was kept before it or behind it.
+    ensures any_moment { R.Disk.is_honest → AlwaysLeaves R.stands_for (IsBeforeOrBehind (core_of memory.old) (R.durable replica.old) event) (R.Disk.disk (R.disk replica.old)) (R.Disk.disk (R.disk replica.new)) }
+{
+    let Begun { what, mut made } = memory.begin(alloc, time, event);
+    match work_out(&memory.base, replica, alloc, &mut made.work, what) {
+        Ok(()) => keep_made(memory, replica, alloc, made),
+        Err(CallError::Failed) => Err(StepError::Failed(made.lost())),
+        Err(CallError::NoMemory) => Err(StepError::NoMemory),
+    }
+}
+
+/// Takes an event. After `Failed` the store is to be loaded again; after another error all is as it was.
+pub(crate) fn advance<R: Replica>(
+    memory: &mut Memory,
+    replica: &mut R,
+    alloc: Global,
+    event: Event,
+) -> Result<Outputs, StepError>
+    requires whole { R.is_whole replica.old }
+    requires held { HoldsCore memory.old.base memory.old.time }
+    requires tied { R.Disk.is_honest → IsKeptOf (R.durable replica.old) memory.old.kept }
+
+    ensures ok { IfOk result (λ outputs. R.Disk.is_honest → Steps (core_of memory.old) (R.durable replica.old) event outputs (core_of memory.new) (R.durable replica.new)) }
+    ensures late { OnOk result (risen_time memory.old.time event ≤ end_of_time) }
+    ensures held { HoldsCore memory.new.base memory.new.time }
+    ensures tied { ((l : _) → IsErrOf result (step_error.Failed l) → ⊥) → R.Disk.is_honest → IsKeptOf (R.durable replica.new) memory.new.kept }
+    ensures whole { ((l : _) → IsErrOf result (step_error.Failed l) → ⊥) → R.is_whole replica.new }
+    ensures back { OnErr result (core_of memory.new ≡ core_of memory.old) }
+    ensures same { OnErr result (((l : _) → IsErrOf result (step_error.Failed l) → ⊥) → R.Disk.is_honest → R.durable replica.new ≡ R.durable replica.old) }
+    ensures no_room { IsErrOf result step_error.NoRoom → R.Disk.is_honest → HasNoRoom (core_of memory.old) (R.durable replica.old) (R.log_end replica.old) event }
+    ensures too_large { (p : _) → IsErrOf result (step_error.TooLarge p) → R.Disk.is_honest → IsTooLarge (core_of memory.old) (R.durable replica.old) event p }
+    ensures cause { (l : _) → IsErrOf result (step_error.Failed l) → HasRisen (R.Disk.faults (R.disk replica.old)) (R.Disk.faults (R.disk replica.new)) }
+    ensures surely { (l : _) → IsErrOf result (step_error.Failed l) → ((n : ℕ) → R.Disk.spares (R.disk replica.old) n) → ⊥ }
+    ensures spared { ((n : ℕ) → R.Disk.spares (R.disk replica.old) n) → (n : ℕ) → R.Disk.spares (R.disk replica.new) n }
+    ensures halts { (l : _) → IsErrOf result (step_error.Failed l) → R.Disk.is_honest → Halts (core_of memory.old) (R.durable replica.old) event (remains l.started l.entries) R.stands_for (R.Disk.disk (R.disk replica.new)) }
+
+    // A crash at any moment of the step leaves what was kept before it or behind it.
+    ensures any_moment { R.Disk.is_honest → AlwaysLeaves R.stands_for (IsBeforeOrBehind (core_of memory.old) (R.durable replica.old) event) (R.Disk.disk (R.disk replica.old)) (R.Disk.disk (R.disk replica.new)) }
+{
+    let Some(time) = risen(memory.time, &event) else {
+        return Err(StepError::NoRoom);
+    };
+    step_at(memory, replica, alloc, time, event)
+}

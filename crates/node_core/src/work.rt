@@ -1,0 +1,126 @@
+//! What a step has made so far.
+
+ghost use Rattle.std.specs.Prelude.{◌≡◌, ◌∷◌, ◌++◌, [], OnOk, IfOk};
+ghost use Rattle.node_steps.specs.Steps.{message_of, messages_of};
+ghost use Rattle.node_core.specs.Working.{own_sent};
+
+use crate::slot::Slot;
+use cs_base::{Items, Micros, NodeId, ReqId};
+use peer_messages::{Body, Entries, Message, Messages, Move, NodeIds, Outbound, Sends};
+use read_coord::ReadCoord;
+use row_change::LogItem;
+use std::alloc::{AllocError, Global};
+use std::collections::VecDeque;
+use write_coord::WriteCoord;
+
+/// What a step has made so far, at the time to which it rose. It is of one request.
+#[derive(Drop)]
+pub(crate) struct Work {
+    pub time: Micros,
+    pub ceiling: Micros,
+    pub request: ReqId,
+    /// The nodes that it takes for dead, where the step marked one.
+    pub marked: Option<NodeIds>,
+    pub write: Slot<WriteCoord>,
+    pub read: Slot<ReadCoord>,
+    /// The changes that it takes in.
+    pub items: Items<LogItem>,
+    pub messages: Messages,
+    pub entries: Entries,
+    /// What the node has yet to hear of its own.
+    pub queue: VecDeque<Outbound>,
+}
+
+/// What a move gives, in order.
+#[derive(Drop)]
+pub(crate) struct Given {
+    pub sends: Sends,
+    pub entries: Entries,
+}
+
+/// A body that comes to a node, its own ones too.
+#[derive(Drop)]
+pub(crate) struct Heard {
+    pub from: NodeId,
+    pub born: Micros,
+    pub request: ReqId,
+    pub body: Body,
+}
+
+fn message(me: NodeId, sent: Outbound, time: Micros) -> Message
+    ensures { result ≡ message_of me time sent }
+{
+    Message {
+        from: me,
+        upto: sent.upto,
+        time,
+        born: sent.born,
+        request: sent.request,
+        body: sent.body,
+    }
+}
+
+impl Given {
+    pub(crate) fn nothing(alloc: Global) -> Given
+        ensures sends { result.sends ≡ [] }
+        ensures entries { result.entries ≡ [] }
+    {
+        Given {
+            sends: Items::new(alloc),
+            entries: Items::new(alloc),
+        }
+    }
+
+    /// What a coordinator's move gives.
+    pub(crate) fn of(turn: Move) -> Given
+        ensures sends { result.sends ≡ turn.sends }
+        ensures entries { result.entries ≡ turn.entries }
+    {
+        Given {
+            sends: turn.sends,
+            entries: turn.entries,
+        }
+    }
+}
+
+impl Work {
+    ghost use Rattle.node_core.specs.Working.{IsSent};
+
+    /// Sends a body, or has the node hear it.
+    fn send(&mut self, me: NodeId, sent: Outbound) -> Result<(), AllocError>
+        ensures { OnOk result (IsSent me (sent ∷ []) self.old self.new) }
+    {
+        if sent.upto == me {
+            self.queue.push_back(sent)?;
+            return Ok(());
+        }
+        self.messages.push(message(me, sent, self.time))?;
+        Ok(())
+    }
+
+    fn send_all(&mut self, me: NodeId, sends: Sends) -> Result<(), AllocError>
+        ensures { OnOk result (IsSent me sends self.old self.new) }
+    {
+        for sent in sends.into_vec() {
+            self.send(me, sent)?;
+        }
+        Ok(())
+    }
+
+    fn enter_all(&mut self, entries: Entries) -> Result<(), AllocError>
+        ensures { OnOk result (self.new ≡ record self.old { entries = self.old.entries ++ entries }) }
+    {
+        for entry in entries.into_vec() {
+            self.entries.push(entry)?;
+        }
+        Ok(())
+    }
+
+    /// Sends and enters what a move gave.
+    pub(crate) fn give(&mut self, me: NodeId, given: Given) -> Result<(), AllocError>
+        ensures { OnOk result (IsSent me given.sends (record self.old { entries = self.old.entries ++ given.entries }) self.new) }
+    {
+        self.send_all(me, given.sends)?;
+        self.enter_all(given.entries)
+    }
+}

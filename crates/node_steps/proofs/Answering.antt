@@ -1,0 +1,143 @@
+-- A replica answers in the event that asks it.
+use Rattle.std.proofs.Common.{◌≡◌, ℕ, Bool, true, false, List, [], ◌∷◌, ◌++◌, filter, refl, sym, ap, subst, ◌∙◌, Contains}
+use Rattle.std.specs.Prelude.{◌==◌, ◌||◌, not, if◌then◌else◌, flat_map, MatchBool}
+use Rattle.std.proofs.lemmas.Bool.{or_parts}
+use Rattle.std.proofs.lemmas.List.Elements.{Contains-append_left, Contains-append_right}
+use Rattle.cs_base.specs.declared.ids.ReqId.{ReqId}
+use Rattle.cs_base.proofs.Members.{contains_here, contains_map, contains_filter, contains_flat}
+use Rattle.peer_messages.specs.declared.event.Event.{Event}
+use Rattle.peer_messages.specs.declared.event.What.{What}
+use Rattle.peer_messages.specs.declared.event.What.TheVariants.{Deliver, Tick}
+use Rattle.peer_messages.specs.declared.message.Body.{Body}
+use Rattle.peer_messages.specs.declared.message.Body.TheVariants.{Write, WriteAck, Read, ReadReply}
+use Rattle.peer_messages.specs.declared.message.Message.{Message}
+use Rattle.peer_messages.specs.declared.outcome.Outbound.{Outbound}
+use Rattle.peer_messages.specs.declared.outcome.Outputs.{Outputs}
+use Rattle.peer_messages.specs.declared.setting.Setting.{Setting}
+use Rattle.durable_state.specs.State.{Stored, changes_of}
+use Rattle.node_steps.specs.State.{NodeState}
+use Rattle.node_steps.specs.Answering.{IsForReplica, IsAnswer, reply_to}
+use Rattle.node_steps.specs.Effects.{Effects, outbound}
+use Rattle.node_steps.specs.Fitting.{message_fits}
+use Rattle.node_steps.specs.Replicas.{Asker, replies}
+use Rattle.node_steps.specs.Acts.{Act, Rises, Hears, Incoming, Deed, Does, HearsBody, Chain, own_sends, is_old, asker_of}
+use Rattle.node_steps.specs.Acts.Chain.{begun, own, matter}
+use Rattle.node_steps.specs.Steps.{time_after, looked_at, is_ahead, is_refused, matter_of, message_of, messages_of, sends_of}
+use Rattle.node_steps.specs.Laws.{ReplicasAnswerAtOnce}
+use Rattle.node_steps.proofs.Written.{message_parts}
+
+-- ---- the only matter of a step was taken behind its rise
+
+record IsDone (c : Setting) (me : ℕ) (s : NodeState) (t : ℕ) (a : Act) (ds : List Deed) : Type 0 where
+  pub mid : NodeState
+  pub after : NodeState
+  pub rise : Effects
+  pub effects : Effects
+  pub rises : Does c me s (Rises t) rise mid
+  pub does : Does c me mid a effects after
+  pub there : Contains ds (record { node = me; act = a; before = mid; after = after; effects = effects })
+
+data Stage (c : Setting) (me : ℕ) (s : NodeState) (t : ℕ) (a : Act) : List Deed → NodeState → List Act → List Act → Type 0 where
+  at_start : Stage c me s t a [] s [] (Rises t ∷ a ∷ [])
+  rose : (deeds : List Deed) (mid : NodeState) (o : Effects) → Does c me s (Rises t) o mid → Stage c me s t a deeds mid [] (a ∷ [])
+  done : (deeds : List Deed) (s' : NodeState) (pending : List Act) → IsDone c me s t a deeds → Stage c me s t a deeds s' pending []
+
+nil_cons : {X : Type 0} (x : X) (xs : List X) → [] ≡ x ∷ xs → ⊥
+nil_cons x xs e = cc
+
+heads : (a b : Act) (xs ys : List Act) → a ∷ xs ≡ b ∷ ys → (a ≡ b) × (xs ≡ ys)
+heads a b xs ys e = (cc, cc)
+
+done_on : (c : Setting) (me : ℕ) (s : NodeState) (t : ℕ) (a : Act) (deeds : List Deed) (d : Deed) → IsDone c me s t a deeds → IsDone c me s t a (deeds ++ d ∷ [])
+done_on c me s t a deeds d h =
+    record { mid = h.mid; after = h.after; rise = h.rise; effects = h.effects; rises = h.rises; does = h.does; there = Contains-append_left deeds (d ∷ []) _ h.there }
+
+stage_own : (c : Setting) (me : ℕ) (s : NodeState) (t : ℕ) (a : Act) (deeds : List Deed) (mid s' : NodeState) (b : Act) (p pending left more : List Act) (d : Deed) → Stage c me s t a deeds mid p left → p ≡ b ∷ pending
+    → Stage c me s t a (deeds ++ d ∷ []) s' more left
+stage_own c me s t a _ _ s' b _ pending _ more d at_start e = absurd (nil_cons b pending e)
+stage_own c me s t a _ _ s' b _ pending _ more d (rose deeds mid o rises) e = absurd (nil_cons b pending e)
+stage_own c me s t a _ _ s' b _ pending _ more d (done deeds mid p h) e = done (deeds ++ d ∷ []) s' more (done_on c me s t a deeds d h)
+
+stage_matter : (c : Setting) (me : ℕ) (s : NodeState) (t : ℕ) (a : Act) (deeds : List Deed) (mid s' : NodeState) (b : Act) (p l left : List Act) (o : Effects) → Stage c me s t a deeds mid p l → l ≡ b ∷ left → Does c me mid b o s'
+    → Stage c me s t a (deeds ++ record { node = me; act = b; before = mid; after = s'; effects = o } ∷ []) s' (own_sends me o.sends) left
+stage_matter c me s t a _ _ s' b _ _ left o at_start e does =
+    let h = heads (Rises t) b (a ∷ []) left e in
+    let rises : Does c me s (Rises t) o s' = subst (λ (x : Act). Does c me s x o s') (sym h.0) does in
+    let none : own_sends me o.sends ≡ [] = ap (λ (x : Effects). own_sends me x.sends) rises.1 in
+    let d : Deed = record { node = me; act = b; before = s; after = s'; effects = o } in
+    subst (λ (xs : List Act). Stage c me s t a (d ∷ []) s' xs left) (sym none) (subst (λ (xs : List Act). Stage c me s t a (d ∷ []) s' [] xs) h.1 (rose (d ∷ []) s' o rises))
+stage_matter c me s t a _ _ s' b _ _ left o (rose deeds mid rise rises) e does =
+    let h = heads a b [] left e in
+    let mine : Does c me mid a o s' = subst (λ (x : Act). Does c me mid x o s') (sym h.0) does in
+    let there : Contains (deeds ++ record { node = me; act = b; before = mid; after = s'; effects = o } ∷ []) (record { node = me; act = a; before = mid; after = s'; effects = o }) =
+    subst (λ (x : Act). Contains (deeds ++ record { node = me; act = x; before = mid; after = s'; effects = o } ∷ []) (record { node = me; act = a; before = mid; after = s'; effects = o })) h.0
+    (Contains-append_right deeds _ _ (contains_here _ []))
+    in
+    subst (λ (xs : List Act). Stage c me s t a (deeds ++ record { node = me; act = b; before = mid; after = s'; effects = o } ∷ []) s' (own_sends me o.sends) xs) h.1
+    (done _ s' (own_sends me o.sends) (record { mid = mid; after = s'; rise = rise; effects = o; rises = rises; does = mine; there = there }))
+stage_matter c me s t a _ _ s' b _ _ left o (done deeds mid p h) e does = absurd (nil_cons b left e)
+
+staged : (c : Setting) (me : ℕ) (s : NodeState) (t : ℕ) (a : Act) (deeds : List Deed) (s' : NodeState) (pending left : List Act) → Chain c me s (Rises t ∷ a ∷ []) deeds s' pending left → Stage c me s t a deeds s' pending left
+staged c me s t a _ _ _ _ begun = at_start
+staged c me s t a _ _ _ _ (own deeds mid s' b pending left o chain does) =
+    stage_own c me s t a deeds mid s' b (b ∷ pending) pending left (pending ++ own_sends me o.sends) _ (staged c me s t a deeds mid (b ∷ pending) left chain) refl
+staged c me s t a _ _ _ _ (matter deeds mid s' b left o chain does) = stage_matter c me s t a deeds mid s' b [] (b ∷ left) left o (staged c me s t a deeds mid [] (b ∷ left) chain) refl does
+
+stage_done : (c : Setting) (me : ℕ) (s : NodeState) (t : ℕ) (a : Act) (deeds : List Deed) (s' : NodeState) (pending left : List Act) → Stage c me s t a deeds s' pending left → left ≡ [] → IsDone c me s t a deeds
+stage_done c me s t a _ _ _ _ at_start e = absurd (nil_cons (Rises t) (a ∷ []) (sym e))
+stage_done c me s t a _ _ _ _ (rose deeds mid o rises) e = absurd (nil_cons a [] (sym e))
+stage_done c me s t a _ _ _ _ (done deeds s' pending h) e = h
+
+-- ---- what was heard was answered
+
+abbrev Sent : ReqId → ℕ → List Outbound → Body → Type 0
+Sent id from sends b = Contains sends (outbound id b from)
+
+replied : (a : Asker) (o : Effects) (b : Body) → o ≡ replies a b → Sent a.request a.from o.sends b
+replied a o b is = subst (λ (x : Effects). Sent a.request a.from x.sends b) (sym is) (contains_here (outbound a.request b a.from) [])
+
+body_answered : (c : Setting) (a : Asker) (b : Body) (s : NodeState) (o : Effects) (s' : NodeState) → IsForReplica b → HearsBody c a b s o s' → (r : Body) × IsAnswer (changes_of s.content) b r × Sent a.request a.from o.sends r
+body_answered c a (Write m) s o s' for h = (WriteAck, refl, replied a o WriteAck h.2)
+body_answered c a WriteAck s o s' for h = absurd for
+body_answered c a (Read q) s o s' for (part, reply, is, same) = (ReadReply part, (part, reply, refl), replied a o (ReadReply part) is)
+body_answered c a (ReadReply content) s o s' for h = absurd for
+
+not_old : (old : Bool) (P Q : Type 0) → old ≡ false → MatchBool old P Q → Q
+not_old false P Q test h = h
+not_old true P Q test h = cc
+
+incoming : Message → Incoming
+incoming m = record { from = m.from; born = m.born; request = m.request; body = m.body }
+
+-- the matters of a step to which a message comes that fits and is not ahead
+only_matter : (c : Setting) (me : ℕ) (s : NodeState) (e : Event) (m : Message) → e.what ≡ Deliver m → is_ahead s.time e (Deliver m) ≡ false → message_fits c me m ≡ true
+    → matter_of c me (looked_at s.time e) ≡ Hears (record { from = m.from; born = m.born; request = m.request; body = m.body }) ∷ []
+only_matter c me s e m what ahead fits =
+    ap (λ (w : What). matter_of c me (if is_ahead s.time e w then Tick else w)) what
+    ∙ ap (λ (b : Bool). matter_of c me (if b then Tick else Deliver m)) ahead
+    ∙ ap (λ (b : Bool). if b then Hears (record { from = m.from; born = m.born; request = m.request; body = m.body }) ∷ [] else []) fits
+
+pub answered_at_once : ReplicasAnswerAtOnce
+answered_at_once c me s e deeds o s' step m what fits heard for =
+    let t = time_after s e in
+    let inc : Incoming = record { from = m.from; born = m.born; request = m.request; body = m.body } in
+    let not_refused : (is_ahead s.time e (Deliver m) || is_old c t m.born) ≡ false =
+    ap (λ (w : What). is_refused c s.time t e w) (sym what) ∙ sym (ap (λ (x : Outputs). x.refused) step.outputs) ∙ heard in
+    let young = or_parts (is_ahead s.time e (Deliver m)) (is_old c t m.born) not_refused in
+    let moves : Chain c me s (Rises t ∷ Hears inc ∷ []) deeds s' [] [] = subst (λ (xs : List Act). Chain c me s (Rises t ∷ xs) deeds s' [] []) (only_matter c me s e m what young.0 fits) step.moves in
+    let h = stage_done c me s t (Hears inc) deeds s' [] [] (staged c me s t (Hears inc) deeds s' [] [] moves) refl in
+    let risen : h.mid.risen ≡ t = ap (λ (x : NodeState). x.risen) h.rises.2 in
+    let held : h.mid.content ≡ s.content = ap (λ (x : NodeState). x.content) h.rises.2 in
+    let heard_body = not_old (is_old c h.mid.risen m.born) _ _ (ap (λ (n : ℕ). is_old c n m.born) risen ∙ young.1) h.does in
+    let r = body_answered c (asker_of inc) m.body h.mid h.effects h.after for heard_body in
+    let x : Outbound = outbound m.request r.0 m.from in
+    let sends : o.sends ≡ messages_of me s'.time (flat_map sends_of deeds) = ap (λ (y : Outputs). y.sends) step.outputs in
+    let time : o.time ≡ s'.time = ap (λ (y : Outputs). y.time) step.outputs in
+    let there : Contains (messages_of me s'.time (flat_map sends_of deeds)) (message_of me s'.time x) =
+    contains_map (message_of me s'.time) (filter (λ y. not (y.upto == me)) (flat_map sends_of deeds)) x
+    (contains_filter (λ (y : Outbound). not (y.upto == me)) (flat_map sends_of deeds) x (contains_flat sends_of deeds _ x h.there r.2) (message_parts c me m fits).other)
+    in (
+      r.0,
+      subst (λ (xs : List Stored). IsAnswer (changes_of xs) m.body r.0) held r.1,
+      subst (λ (n : ℕ). Contains o.sends (reply_to me n m r.0)) (sym time) (subst (λ (xs : List Message). Contains xs (message_of me s'.time x)) (sym sends) there),
+    )

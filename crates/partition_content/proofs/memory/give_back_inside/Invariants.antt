@@ -1,0 +1,9 @@
+use Rattle.std.proofs.Common.{◌≡◌}
+use Rattle.partition_content.specs.Slots.{stored_of, helds_of, IsGood}
+use Rattle.partition_content.proofs.memory.give_back_inside.Given as goal
+
+abbrev pub invariant-loop-keys : goal.invariant-loop-keys
+invariant-loop-keys l = record {
+  stored : stored_of l.slots.entries ≡ stored_of l.fn.slots.entries;
+  good : IsGood (helds_of l.slots);
+}

@@ -1,0 +1,6 @@
+use Rattle.std.proofs.Common.{◌≡◌, ◌++◌, map, take}
+use Rattle.prepared_statement.specs.Slots.{deleted_slot}
+use Rattle.prepared_statement.proofs.slots.push_deleted.Given as goal
+
+abbrev pub invariant-loop-name : goal.invariant-loop-name
+invariant-loop-name l = l.slots ≡ l.fn.slots ++ map (deleted_slot l.columns) (take l.name-index l.names)

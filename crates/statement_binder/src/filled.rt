@@ -1,0 +1,290 @@
+//! The slots of a statement with their values.
+
+ghost use Rattle.std.specs.Prelude.{◌≡◌, IfOk, OnOk, option_copied};
+ghost use Rattle.std.specs.Result.{result_ok};
+ghost use Rattle.cql_values.specs.Protocol.{decoded as decoded_of};
+ghost use Rattle.cql_values.specs.declared.value.CqlType.TheVariants as types;
+ghost use Rattle.statement_values.specs.Sources.{left_in};
+ghost use Rattle.statement_binder.specs.Filled.{compare_of as compare_of_operator, value_in as value_in_of, stored as stored_of, written as written_of, timestamp_in as timestamp_in_of, limit_in as limit_in_of, with_key, with_cell, with_test, by_role, with_slot, given_to as given_to_slot, behind, left_after, unfilled, filled_of};
+
+use condition_test::order_of;
+use cql_statement::{RelationOperator, TestOperator};
+use cql_values::{CqlType, CqlValue, ValueError, decode, encode};
+use cs_base::{Bytes, Items};
+use key_restrictions::{Restriction, Restrictions};
+use prepared_statement::{
+    Role, Slot, bigint_in, column_number, fits, int_in, is_marker, lower, slot_fault, value_at,
+};
+use statement_plan::{CellTest, CellTests, Compare, Fault};
+use statement_values::{Param, Supplier};
+use std::alloc::{AllocError, Global};
+
+/// What a cell gets. No value stands for null.
+#[derive(Debug, Drop)]
+pub(crate) struct CellValue {
+    pub(crate) column: u8,
+    pub(crate) value: Option<Bytes>,
+}
+
+/// What of the values of a statement is used, by the roles of its slots, and the lowest refusal, with which it means
+/// nothing.
+#[derive(Drop)]
+pub(crate) struct Filled {
+    pub(crate) fault: Option<Fault>,
+    pub(crate) keys: Restrictions<CqlValue>,
+    pub(crate) cells: Items<CellValue>,
+    pub(crate) tests: CellTests,
+    pub(crate) timestamp: Option<i64>,
+    pub(crate) limit: Option<i32>,
+}
+
+fn decoded(alloc: Global, ty: CqlType, bytes: &[u8]) -> Result<Option<CqlValue>, AllocError>
+    ensures { IfOk result (λ value. value ≡ result_ok (decoded_of ty bytes.now)) }
+{
+    match decode(alloc, ty, bytes) {
+        Ok(value) => Ok(Some(value)),
+        Err(ValueError::NoMemory) => Err(AllocError),
+        Err(_) => Ok(None),
+    }
+}
+
+fn value_in(
+    alloc: Global,
+    ty: CqlType,
+    param: Option<&Param>,
+) -> Result<Option<CqlValue>, AllocError>
+    ensures { IfOk result (λ value. value ≡ value_in_of ty (option_copied param.entry)) }
+{
+    match param {
+        Some(Param::Given(bytes)) => decoded(alloc, ty, bytes.as_slice()),
+        Some(Param::Null) | Some(Param::NotSet) | None => Ok(None),
+    }
+}
+
+/// The bytes of a number, a boolean or a uuid as they are stored. Of a boolean each byte but 0 is true.
+fn stored_anew(alloc: Global, ty: CqlType, bytes: &[u8]) -> Result<Option<Bytes>, AllocError>
+    ensures { IfOk result (λ word. word ≡ stored_of ty bytes.now) }
+{
+    match decoded(alloc, ty, bytes)? {
+        Some(value) => Ok(Some(encode(alloc, &value)?)),
+        None => Ok(None),
+    }
+}
+
+/// A text of ASCII as it is stored, in memory that is shared with it.
+fn stored_ascii(alloc: Global, bytes: &Bytes) -> Result<Option<Bytes>, AllocError>
+    ensures { IfOk result (λ word. word ≡ stored_of types.Ascii bytes.now) }
+{
+    if fits(CqlType::Ascii, bytes.as_slice()) {
+        Ok(Some(bytes.copy(alloc)?))
+    } else {
+        Ok(None)
+    }
+}
+
+/// A text as it is stored, in memory that is shared with it.
+fn stored_text(alloc: Global, bytes: &Bytes) -> Result<Option<Bytes>, AllocError>
+    ensures { IfOk result (λ word. word ≡ stored_of types.Text bytes.now) }
+{
+    if fits(CqlType::Text, bytes.as_slice()) {
+        Ok(Some(bytes.copy(alloc)?))
+    } else {
+        Ok(None)
+    }
+}
+
+/// The bytes of a value as they are stored.
+fn stored(alloc: Global, ty: CqlType, bytes: &Bytes) -> Result<Option<Bytes>, AllocError>
+    ensures { IfOk result (λ word. word ≡ stored_of ty bytes.now) }
+{
+    match ty {
+        CqlType::Ascii => stored_ascii(alloc, bytes),
+        CqlType::Blob => Ok(Some(bytes.copy(alloc)?)),
+        CqlType::Text => stored_text(alloc, bytes),
+        _ => stored_anew(alloc, ty, bytes.as_slice()),
+    }
+}
+
+/// A value or null, where one is set.
+fn written(
+    alloc: Global,
+    ty: CqlType,
+    param: Option<&Param>,
+) -> Result<Option<Option<Bytes>>, AllocError>
+    ensures { IfOk result (λ value. value ≡ written_of ty (option_copied param.entry)) }
+{
+    match param {
+        None | Some(Param::NotSet) => Ok(None),
+        Some(Param::Null) => Ok(Some(None)),
+        Some(Param::Given(bytes)) => match stored(alloc, ty, bytes)? {
+            Some(word) => Ok(Some(Some(word))),
+            None => Ok(None),
+        },
+    }
+}
+
+fn timestamp_in(param: Option<&Param>) -> Option<i64>
+    ensures { result ≡ timestamp_in_of (option_copied param.entry) }
+{
+    match param {
+        Some(Param::Given(bytes)) => bigint_in(bytes.as_slice()),
+        Some(Param::Null) | Some(Param::NotSet) | None => None,
+    }
+}
+
+fn limit_in(param: Option<&Param>) -> Option<i32>
+    ensures { result ≡ limit_in_of (option_copied param.entry) }
+{
+    match param {
+        Some(Param::Given(bytes)) => int_in(bytes.as_slice()),
+        Some(Param::Null) | Some(Param::NotSet) | None => None,
+    }
+}
+
+fn compare_of(operator: TestOperator) -> Compare
+    ensures { result ≡ compare_of_operator operator }
+{
+    match operator {
+        TestOperator::Equal => Compare::Equal,
+        TestOperator::NotEqual => Compare::NotEqual,
+        TestOperator::Less => Compare::Less,
+        TestOperator::LessOrEqual => Compare::LessOrEqual,
+        TestOperator::Greater => Compare::Greater,
+        TestOperator::GreaterOrEqual => Compare::GreaterOrEqual,
+    }
+}
+
+impl Filled {
+    fn new(alloc: Global) -> Filled
+        ensures { result ≡ unfilled }
+    {
+        Filled {
+            fault: None,
+            keys: Items::new(alloc),
+            cells: Items::new(alloc),
+            tests: Items::new(alloc),
+            timestamp: None,
+            limit: None,
+        }
+    }
+
+    fn add_key(
+        &mut self,
+        column: usize,
+        operator: RelationOperator,
+        value: Option<CqlValue>,
+    ) -> Result<(), AllocError>
+        ensures { OnOk result (self.new ≡ with_key self.old column operator value) }
+    {
+        if let Some(value) = value {
+            self.keys.push(Restriction {
+                column,
+                operator,
+                value,
+            })?;
+        }
+        Ok(())
+    }
+
+    fn add_cell(&mut self, column: usize, value: Option<Option<Bytes>>) -> Result<(), AllocError>
+        ensures { OnOk result (self.new ≡ with_cell self.old column value) }
+    {
+        if let Some(value) = value {
+            let column = column_number(column);
+            self.cells.push(CellValue { column, value })?;
+        }
+        Ok(())
+    }
+
+    fn add_test(
+        &mut self,
+        column: usize,
+        operator: TestOperator,
+        ty: CqlType,
+        value: Option<Option<Bytes>>,
+    ) -> Result<(), AllocError>
+        ensures { OnOk result (self.new ≡ with_test self.old column operator ty value) }
+    {
+        if let Some(value) = value {
+            self.tests.push(CellTest {
+                column: column_number(column),
+                compare: compare_of(operator),
+                value,
+                order: order_of(ty),
+            })?;
+        }
+        Ok(())
+    }
+
+    /// Adds a value by the role of its slot.
+    fn add_value(
+        &mut self,
+        alloc: Global,
+        role: Role,
+        ty: CqlType,
+        param: Option<&Param>,
+    ) -> Result<(), AllocError>
+        ensures { OnOk result (self.new ≡ by_role self.old role ty (option_copied param.entry)) }
+    {
+        match role {
+            Role::Key(column, operator) => {
+                let value = value_in(alloc, ty, param)?;
+                self.add_key(column, operator, value)
+            }
+            Role::Cell(column) => {
+                let value = written(alloc, ty, param)?;
+                self.add_cell(column, value)
+            }
+            Role::Test(column, operator) => {
+                let value = written(alloc, ty, param)?;
+                self.add_test(column, operator, ty, value)
+            }
+            Role::Timestamp => {
+                self.timestamp = timestamp_in(param);
+                Ok(())
+            }
+            Role::Limit => {
+                self.limit = limit_in(param);
+                Ok(())
+            }
+            Role::Filter(_) | Role::Unfilled(_) | Role::Unplaced => Ok(()),
+        }
+    }
+
+    /// Adds a slot, with what a request gives for its marker.
+    fn add(&mut self, alloc: Global, slot: &Slot, given: Option<&Param>) -> Result<(), AllocError>
+        ensures { OnOk result (self.new ≡ with_slot self.old slot.now (option_copied given.entry)) }
+    {
+        self.fault = lower(self.fault, slot_fault(slot, given));
+        self.add_value(alloc, slot.role, slot.ty, value_at(&slot.stands, given))
+    }
+}
+
+/// What the request gives for the marker of a slot, if it has one.
+fn given_to<'a>(supplier: &mut Supplier<'a>, slot: &Slot) -> Option<&'a Param>
+    ensures value { option_copied result ≡ given_to_slot (left_in supplier.old) slot.now }
+    ensures left { left_in supplier.new ≡ behind (left_in supplier.old) slot.now }
+{
+    if is_marker(&slot.stands) {
+        supplier.take(slot.name.as_str())
+    } else {
+        None
+    }
+}
+
+/// The slots of a statement with the values that are left for them.
+pub(crate) fn fill_slots(
+    alloc: Global,
+    slots: &[Slot],
+    supplier: &mut Supplier,
+) -> Result<Filled, AllocError>
+    ensures values { IfOk result (λ filled. filled ≡ filled_of (left_in supplier.old) slots.now) }
+    ensures left { OnOk result (left_in supplier.new ≡ left_after (left_in supplier.old) slots.now) }
+{
+    let mut filled = Filled::new(alloc);
+    for slot in slots {
+        let given = given_to(supplier, slot);
+        filled.add(alloc, slot, given)?;
+    }
+    Ok(filled)
+}

@@ -1,4 +1,0 @@
-pub mod Changing
-pub mod Names
-pub mod Resolved
-pub mod Faults
