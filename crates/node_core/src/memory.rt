@@ -11,7 +11,7 @@ ghost use Rattle.node_steps.specs.Stops.{remains};
 ghost use Rattle.replica.specs.Finding.{AlwaysLeaves};
 ghost use Rattle.replica.specs.Kept.{IsKeptOf};
 ghost use Rattle.replica.specs.Lengths.{IsFirstTooLarge};
-ghost use Rattle.node_core.specs.Nodes.{Steps, HasNoRoom, IsTooLarge, Halts, IsBeforeOrBehind, OverflowsLog};
+ghost use Rattle.node_core.specs.Nodes.{Steps, HasRoom, HasNoRoom, IsTooLarge, Halts, IsBeforeOrBehind, OverflowsLog, WouldKeep};
 ghost use Rattle.node_core.specs.Working.{IsSound};
 ghost use Rattle.node_core.specs.Opening.{AreOrdered};
 ghost use Rattle.node_core.specs.Memory.{core_of, core_behind, entry_made, is_flush, AreOutputsOf, HoldsCore, IsBegun, IsLost, IsRefusal};
@@ -146,6 +146,7 @@ fn keep_made<R: Replica>(
     ensures whole { ((l : _) → IsErrOf result (step_error.Failed l) → ⊥) → R.is_whole replica.new }
     ensures same { OnErr result (((l : _) → IsErrOf result (step_error.Failed l) → ⊥) → R.Disk.is_honest → R.durable replica.new ≡ R.durable replica.old) }
     ensures too_large { (p : _) → IsErrOf result (step_error.TooLarge p) → R.Disk.is_honest → IsFirstTooLarge (entry_made memory.old made.work) (R.durable replica.old) p }
+    ensures room { OnOk result (R.Disk.is_honest → HasRoom (R.log_end replica.old) (R.durable replica.old) (entry_made memory.old made.work)) }
     ensures no_room { IsErrOf result step_error.NoRoom → R.Disk.is_honest → OverflowsLog (R.log_end replica.old) (R.durable replica.old) (entry_made memory.old made.work) }
     ensures lost { (l : _) → IsErrOf result (step_error.Failed l) → IsLost made.started made.work.entries l }
     ensures failed { (l : _) → IsErrOf result (step_error.Failed l) → HasRisen (R.Disk.faults (R.disk replica.old)) (R.Disk.faults (R.disk replica.new)) }
@@ -224,6 +225,7 @@ fn step_at<R: Replica>(
     ensures whole { ((l : _) → IsErrOf result (step_error.Failed l) → ⊥) → R.is_whole replica.new }
     ensures back { OnErr result (core_of memory.new ≡ core_of memory.old) }
     ensures same { OnErr result (((l : _) → IsErrOf result (step_error.Failed l) → ⊥) → R.Disk.is_honest → R.durable replica.new ≡ R.durable replica.old) }
+    ensures room { OnOk result (R.Disk.is_honest → WouldKeep (core_of memory.old) (R.durable replica.old) event (HasRoom (R.log_end replica.old) (R.durable replica.old))) }
     ensures no_room { IsErrOf result step_error.NoRoom → R.Disk.is_honest → HasNoRoom (core_of memory.old) (R.durable replica.old) (R.log_end replica.old) event }
     ensures too_large { (p : _) → IsErrOf result (step_error.TooLarge p) → R.Disk.is_honest → IsTooLarge (core_of memory.old) (R.durable replica.old) event p }
     ensures cause { (l : _) → IsErrOf result (step_error.Failed l) → HasRisen (R.Disk.faults (R.disk replica.old)) (R.Disk.faults (R.disk replica.new)) }
@@ -260,6 +262,7 @@ pub(crate) fn advance<R: Replica>(
     ensures whole { ((l : _) → IsErrOf result (step_error.Failed l) → ⊥) → R.is_whole replica.new }
     ensures back { OnErr result (core_of memory.new ≡ core_of memory.old) }
     ensures same { OnErr result (((l : _) → IsErrOf result (step_error.Failed l) → ⊥) → R.Disk.is_honest → R.durable replica.new ≡ R.durable replica.old) }
+    ensures room { OnOk result (R.Disk.is_honest → WouldKeep (core_of memory.old) (R.durable replica.old) event (HasRoom (R.log_end replica.old) (R.durable replica.old))) }
     ensures no_room { IsErrOf result step_error.NoRoom → R.Disk.is_honest → HasNoRoom (core_of memory.old) (R.durable replica.old) (R.log_end replica.old) event }
     ensures too_large { (p : _) → IsErrOf result (step_error.TooLarge p) → R.Disk.is_honest → IsTooLarge (core_of memory.old) (R.durable replica.old) event p }
     ensures cause { (l : _) → IsErrOf result (step_error.Failed l) → HasRisen (R.Disk.faults (R.disk replica.old)) (R.Disk.faults (R.disk replica.new)) }

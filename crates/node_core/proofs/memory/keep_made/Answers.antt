@@ -2,7 +2,7 @@ use Rattle.std.proofs.Common.{ℕ, Option, Result, Err, IsErrOf, refl, sym, ap, 
 use Rattle.replica.specs.declared.error.RoomError.{RoomError}
 use Rattle.replica.specs.declared.error.RoomError.TheVariants as room_error
 use Rattle.node_core.proofs.Answered.{err_here, ok_here}
-use Rattle.node_core.proofs.Entry.{commits_as, entry_arrives, entry_fits, entry_purges, kept_after, large_as, moment_as, overflow_as, still_with}
+use Rattle.node_core.proofs.Entry.{commits_as, entry_arrives, entry_fits, entry_purges, kept_after, large_as, moment_as, overflow_as, room_as, still_with}
 use Rattle.node_core.proofs.Requests.{close_known, core_back, core_put, put_known}
 use Rattle.node_core.proofs.Refusing.{failed_cause, fine, large_cause, no_room_cause, told_one}
 use Rattle.node_core.proofs.memory.keep_made.Goals as goal
@@ -29,6 +29,10 @@ returns-in-Ok-clause-behind g c =
 pub returns-in-Ok-clause-ok : goal.returns-in-Ok-clause-ok
 returns-in-Ok-clause-ok g c = λ honest.
     commits_as c.in_ok-entry.entry.items _ (g.R.Replica.durable c.args.replica.now) (g.R.Replica.durable c.commit.new.replica) c.in_ok-entry.ensures (ok_here c.commit.result c.in-Ok.tables _ c.in-Ok.is c.commit.ensures.ok honest)
+
+pub returns-in-Ok-clause-room : goal.returns-in-Ok-clause-room
+returns-in-Ok-clause-room g c = λ honest.
+    room_as (g.R.Replica.log_end c.args.replica.now) (g.R.Replica.durable c.args.replica.now) c.in_ok-entry.entry.items _ c.in_ok-entry.ensures (ok_here c.commit.result c.in-Ok.tables _ c.in-Ok.is c.commit.ensures.room honest)
 
 pub returns-in-Ok-clause-any_moment : goal.returns-in-Ok-clause-any_moment
 returns-in-Ok-clause-any_moment g c = λ honest.

@@ -8,7 +8,7 @@ use Rattle.replica.specs.declared.error.CallError.TheVariants as call_error
 use Rattle.node_core.specs.Memory.{core_of, entry_made}
 use Rattle.node_core.specs.Nodes.{OverflowsLog}
 use Rattle.node_core.proofs.Answered.{ok_here, risen_later}
-use Rattle.node_core.proofs.Ending.{begun_about, begun_later, begun_new, begun_started, begun_within, held_kept, same_kept, lost_as, steps_kept, tied_kept}
+use Rattle.node_core.proofs.Ending.{begun_about, begun_later, begun_new, begun_started, begun_within, held_kept, same_kept, lost_as, room_kept, steps_kept, tied_kept}
 use Rattle.node_core.proofs.Stepping.{commit_halts, cut_at, look_halts, look_leaves, no_room, ready, step_leaves, too_large}
 use Rattle.node_core.proofs.memory.step_at.Goals as goal
 
@@ -47,6 +47,13 @@ returns-in-Ok-clause-tied g c =
 pub returns-in-Ok-clause-same : goal.returns-in-Ok-clause-same
 returns-in-Ok-clause-same g c =
     same_kept c.keep_made.result (g.R.Replica.durable c.args.replica.now) (g.R.Replica.durable c.work_out.new.replica) (g.R.Replica.durable c.keep_made.new.replica) g.R.Disk.Store.is_honest (λ honest. (c.work_out.ensures.peeks.looked honest).same) c.keep_made.ensures.same
+
+pub returns-in-Ok-clause-room : goal.returns-in-Ok-clause-room
+returns-in-Ok-clause-room g c =
+    let worked = ok_here c.work_out.result _ _ c.in-Ok.is c.work_out.ensures.ok in
+    room_kept c.keep_made.result c.args.memory.now (g.R.Replica.durable c.args.replica.now) (g.R.Replica.durable c.work_out.new.replica) (g.R.Replica.log_end c.args.replica.now) (g.R.Replica.log_end c.work_out.new.replica) c.args.event (record c.begin-what.result.made { work = c.work_out.new.work }) g.R.Disk.Store.is_honest
+    (λ honest. ready c.args.memory.now (g.R.Replica.durable c.args.replica.now) c.args.event c.args.time c.begin-what.result g.R.Disk.Store.is_honest c.work_out.new.work c.requires.time c.begin-what.ensures worked honest (c.requires.tied honest))
+    (λ honest. (c.work_out.ensures.peeks.looked honest).same) c.work_out.ensures.peeks.log c.keep_made.ensures.room
 
 pub returns-in-Ok-clause-no_room : goal.returns-in-Ok-clause-no_room
 returns-in-Ok-clause-no_room g c = λ told honest.
