@@ -1,4 +1,4 @@
-//! Tests of nodes and of what they tell, which need only the public side of the crates.
+//! Tests of nodes and clusters, which need only the public side of the crates.
 #![tactic(auto)]
 
 #[cfg(test)]
@@ -6,18 +6,10 @@ mod clusters;
 #[cfg(test)]
 mod limits;
 #[cfg(test)]
-mod messages;
-#[cfg(test)]
 mod nodes;
 #[cfg(test)]
 mod plans;
 #[cfg(test)]
-mod printing;
-#[cfg(test)]
-mod reads;
-#[cfg(test)]
 mod site;
 #[cfg(test)]
 mod told;
-#[cfg(test)]
-mod writes;
