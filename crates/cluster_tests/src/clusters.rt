@@ -1,18 +1,42 @@
 //! Three nodes, each a replica, and what their network does with messages.
 
+ghost use Rattle.std.specs.Prelude.{◌≡◌, length, vec_len};
+
 use crate::plans::{read, write, write_bytes};
 use crate::site::{id, setting, store_of, store_with};
 use cluster_model::{Cluster, ClusterError, ClusterEvent};
 use cs_base::Level;
 use cs_store::MemStore;
 use list_replica::MemListReplica;
-use peer_messages::{Ask, Entry, Invalid, Plan, Refusal};
-use std::alloc::Global;
+use peer_messages::{Ask, Entries, Entry, Invalid, Plan, Refusal, Setting};
+use std::alloc::{AllocError, Global};
 use std::mem;
 use std::test::Fail;
 
-/// A cluster as these tests step it.
-type Tested = Cluster<MemListReplica>;
+/// A cluster over lists in memory. That it is one stands here alone: a proof over a type of a replica of its own costs much
+/// more.
+#[derive(Drop)]
+struct Tested {
+    cluster: Cluster<MemListReplica>,
+}
+
+impl Tested {
+    fn new(alloc: Global, setting: Setting, stores: Vec<MemStore>) -> Result<Tested, ClusterError>
+        requires { vec_len stores ≡ length setting.ring }
+    {
+        Ok(Tested {
+            cluster: Cluster::new(alloc, setting, stores)?,
+        })
+    }
+
+    fn step(&mut self, alloc: Global, event: ClusterEvent) -> Result<(), AllocError> {
+        self.cluster.step(alloc, event)
+    }
+
+    fn chronicle(&self) -> &[Entries] {
+        self.cluster.chronicle()
+    }
+}
 
 fn cluster_of_three(alloc: Global) -> Result<Tested, Fail> {
     let stores = vec![in alloc;
@@ -20,7 +44,7 @@ fn cluster_of_three(alloc: Global) -> Result<Tested, Fail> {
         MemStore::formatted(alloc)?,
         MemStore::formatted(alloc)?,
     ]?;
-    Ok(Cluster::new(alloc, setting(alloc, &[-3, 0, 3], 3)?, stores)?)
+    Ok(Tested::new(alloc, setting(alloc, &[-3, 0, 3], 3)?, stores)?)
 }
 
 /// A client of the node asks this at QUORUM.

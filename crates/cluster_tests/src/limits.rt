@@ -4,25 +4,21 @@ ghost use Rattle.std.specs.Prelude.{◌≤◌};
 ghost use Rattle.cs_store.specs.Mem.{IsAllSettled};
 
 use crate::plans::{partition, read, write, write_bytes};
-use crate::site::{Site, id, setting, store_of, store_with};
+use crate::site::{Tested, id, setting, store_of, store_with};
 use crate::told::{Told, told_by};
 use cs_base::{Level, Micros, NodeId, ReqId};
 use cs_store::{MemStore, Outcome};
-use list_replica::MemListReplica;
 use node_core::{Lost, StepError};
 use peer_messages::{Ask, Entry, Message, Messages, Outputs, Plan, What};
 use std::alloc::{AllocError, Global};
 use std::test::Fail;
-
-/// A node as these tests step it.
-type Tested = Site<MemListReplica>;
 
 /// One of three nodes, on this store.
 fn node_on(alloc: Global, number: u8, store: MemStore) -> Result<Tested, Fail>
     requires { IsAllSettled store }
 {
     let setting = setting(alloc, &[-3, 0, 3], 3)?;
-    Site::load(alloc, id(number)?, setting, store)
+    Tested::load(alloc, id(number)?, setting, store)
 }
 
 /// What is told where a client asks at ONE, and the clock stands at 0.

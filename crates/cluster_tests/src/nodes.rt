@@ -1,29 +1,25 @@
 //! Three nodes, each a replica, stepped by hand: what is lost, repeated and reordered, and each refusal.
 
 use crate::plans::{read, write};
-use crate::site::{Site, id, setting};
+use crate::site::{Tested, id, setting};
 use crate::told::{Told, last_told};
 use cs_base::{Level, Micros, NodeId, ReqId, Text};
 use cs_store::{MemStore, Outcome};
-use list_replica::MemListReplica;
 use peer_messages::{Ask, Body, Invalid, Message, Messages, Outputs, Plan, Refusal, What};
 use statement_plan::Fault;
 use std::alloc::Global;
 use std::test::Fail;
 
-/// A node as these tests step it.
-type Tested = Site<MemListReplica>;
-
 /// One of three nodes.
 fn node(alloc: Global, number: u8) -> Result<Tested, Fail> {
     let setting = setting(alloc, &[-3, 0, 3], 3)?;
-    Site::load(alloc, id(number)?, setting, MemStore::formatted(alloc)?)
+    Tested::load(alloc, id(number)?, setting, MemStore::formatted(alloc)?)
 }
 
 /// A node that is the only one.
 fn lone_node(alloc: Global) -> Result<Tested, Fail> {
     let setting = setting(alloc, &[0], 1)?;
-    Site::load(alloc, NodeId::FIRST, setting, MemStore::formatted(alloc)?)
+    Tested::load(alloc, NodeId::FIRST, setting, MemStore::formatted(alloc)?)
 }
 
 fn acknowledgement(from: u8, request: ReqId) -> Result<Message, Fail> {

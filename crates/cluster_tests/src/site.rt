@@ -6,6 +6,7 @@ ghost use Rattle.replica.specs.Kept.{IsKeptOf};
 
 use cs_base::{Items, Micros, NodeId};
 use cs_store::{FileNo, MemStore, Outcome, Store};
+use list_replica::MemListReplica;
 use node_core::{Node, StepError};
 use peer_messages::{Event, Outputs, Setting, TableSetting, What};
 use replica::{LoadError, MemReplica};
@@ -18,9 +19,9 @@ use token_ring::Ring;
 /// After so many microseconds a message is too old.
 pub(crate) const EXPIRY: u64 = 1_000_000_000;
 
-/// A node, of which nothing is known but that it can be stepped.
+/// A node over a replica, of which nothing is known but that it can be stepped.
 #[derive(Drop)]
-pub(crate) struct Site<R: MemReplica> {
+struct Site<R: MemReplica> {
     node: Node<R>,
 }
 
@@ -50,7 +51,7 @@ pub(crate) fn id(number: u8) -> Result<NodeId, Fail> {
 
 impl<R: MemReplica> Site<R> {
     /// Loads the node from a store.
-    pub(crate) fn load(
+    fn load(
         alloc: Global,
         me: NodeId,
         setting: Setting,
@@ -67,7 +68,7 @@ impl<R: MemReplica> Site<R> {
     }
 
     /// Takes what comes, at this reading of the clock.
-    pub(crate) fn step(
+    fn step(
         &mut self,
         alloc: Global,
         clock: u64,
@@ -78,7 +79,7 @@ impl<R: MemReplica> Site<R> {
     }
 
     /// The nodes that it takes for dead, as the bits of their numbers.
-    pub(crate) fn down(&self) -> u8 {
+    fn down(&self) -> u8 {
         let mut nodes = 0;
         for node in self.node.core.down() {
             nodes |= 1 << node.number();
@@ -87,7 +88,7 @@ impl<R: MemReplica> Site<R> {
     }
 
     /// The node's time once it takes this reading of the clock.
-    pub(crate) fn time_at(&mut self, alloc: Global, clock: u64) -> Result<u64, Fail> {
+    fn time_at(&mut self, alloc: Global, clock: u64) -> Result<u64, Fail> {
         match self.step(alloc, clock, What::Tick) {
             Ok(outputs) => Ok(outputs.time.count()),
             Err(_) => Err("no step".into()),
@@ -95,7 +96,7 @@ impl<R: MemReplica> Site<R> {
     }
 
     /// Lets a fault come at the call of its store of this number, from now.
-    pub(crate) fn let_come(&mut self, call: u32, fails: bool, outcome: Outcome)
+    fn let_come(&mut self, call: u32, fails: bool, outcome: Outcome)
         requires { 1 ≤ call }
     {
         if fails {
@@ -106,12 +107,68 @@ impl<R: MemReplica> Site<R> {
     }
 
     /// Its store, once the node has crashed.
-    pub(crate) fn crashed(self, outcome: Outcome) -> MemStore
+    fn crashed(self, outcome: Outcome) -> MemStore
         ensures { IsAllSettled result }
     {
         let mut store = self.node.release();
         store.crash(outcome);
         store
+    }
+}
+
+/// A node over a list in memory. That it is one stands here alone: a proof over a type of a replica of its own costs much more.
+#[derive(Drop)]
+pub(crate) struct Tested {
+    site: Site<MemListReplica>,
+}
+
+impl Tested {
+    /// Loads the node from a store.
+    pub(crate) fn load(
+        alloc: Global,
+        me: NodeId,
+        setting: Setting,
+        store: MemStore,
+    ) -> Result<Tested, Fail>
+        requires { IsAllSettled store }
+    {
+        Ok(Tested {
+            site: Site::load(alloc, me, setting, store)?,
+        })
+    }
+
+    /// Takes what comes, at this reading of the clock.
+    pub(crate) fn step(
+        &mut self,
+        alloc: Global,
+        clock: u64,
+        what: What,
+    ) -> Result<Outputs, StepError> {
+        self.site.step(alloc, clock, what)
+    }
+
+    /// The nodes that it takes for dead, as the bits of their numbers.
+    pub(crate) fn down(&self) -> u8 {
+        self.site.down()
+    }
+
+    /// The node's time once it takes this reading of the clock.
+    pub(crate) fn time_at(&mut self, alloc: Global, clock: u64) -> Result<u64, Fail> {
+        self.site.time_at(alloc, clock)
+    }
+
+    /// Lets a fault come at the call of its store of this number, from now.
+    pub(crate) fn let_come(&mut self, call: u32, fails: bool, outcome: Outcome)
+        requires { 1 ≤ call }
+    {
+        self.site.let_come(call, fails, outcome);
+    }
+
+    /// Its store, once the node has crashed.
+    pub(crate) fn crashed(self, outcome: Outcome) -> MemStore
+        ensures { IsAllSettled result }
+    {
+        self.site.crashed(outcome)
     }
 }
 
