@@ -51,12 +51,7 @@ pub(crate) fn id(number: u8) -> Result<NodeId, Fail> {
 
 impl<R: MemReplica> Site<R> {
     /// Loads the node from a store.
-    fn load(
-        alloc: Global,
-        me: NodeId,
-        setting: Setting,
-        store: MemStore,
-    ) -> Result<Site<R>, Fail>
+    fn load(alloc: Global, me: NodeId, setting: Setting, store: MemStore) -> Result<Site<R>, Fail>
         requires { IsAllSettled store }
     {
         match Node::load(alloc, me, setting, store) {
@@ -68,12 +63,7 @@ impl<R: MemReplica> Site<R> {
     }
 
     /// Takes what comes, at this reading of the clock.
-    fn step(
-        &mut self,
-        alloc: Global,
-        clock: u64,
-        what: What,
-    ) -> Result<Outputs, StepError> {
+    fn step(&mut self, alloc: Global, clock: u64, what: What) -> Result<Outputs, StepError> {
         let clock = Micros::new(clock);
         self.node.step(alloc, Event { clock, what })
     }
