@@ -1,7 +1,7 @@
 //! What a step makes of the open request that it is about.
 
 ghost use Rattle.std.specs.Prelude.{◌≡◌, ◌↔◌, IsTrue, false};
-ghost use Rattle.node_core.specs.Slots.{IsFound, slot_after};
+ghost use Rattle.node_core.specs.Slots.{IsFound, TakesNew, TakesOld, slot_after};
 ghost use Rattle.node_core.specs.declared.slot.Slot.TheVariants.{Gone};
 
 use std::mem;
@@ -38,6 +38,34 @@ impl<W: Drop> Slot<W> {
                 *self = slot;
                 None
             }
+        }
+    }
+}
+
+impl<W: Drop> Slot<W> {
+    /// Takes the request out, if it began in the step. Else nothing is moved.
+    pub(crate) fn take_new(&mut self) -> Option<W>
+        ensures { TakesNew self.old result self.new }
+    {
+        if !matches!(self, Slot::New(_)) {
+            return None;
+        }
+        match mem::replace(self, Slot::Untouched) {
+            Slot::New(now) => Some(now),
+            Slot::Untouched | Slot::Old(_) | Slot::Gone => None,
+        }
+    }
+
+    /// Takes the request out, if it was open before the step and moved. Else nothing is moved.
+    pub(crate) fn take_old(&mut self) -> Option<W>
+        ensures { TakesOld self.old result self.new }
+    {
+        if !matches!(self, Slot::Old(_)) {
+            return None;
+        }
+        match mem::replace(self, Slot::Untouched) {
+            Slot::Old(now) => Some(now),
+            Slot::Untouched | Slot::New(_) | Slot::Gone => None,
         }
     }
 }
