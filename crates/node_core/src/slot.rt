@@ -27,17 +27,17 @@ pub(crate) struct Found<W: Drop> {
 }
 
 impl<W: Drop> Slot<W> {
-    /// Takes the request out, if the step has touched it and it is open still.
+    /// Takes the request out, if the step has touched it and it is open still. Else nothing is moved.
     pub(crate) fn take(&mut self) -> Option<Found<W>>
         ensures { IsFound self.old result self.new }
     {
+        if matches!(self, Slot::Untouched | Slot::Gone) {
+            return None;
+        }
         match mem::replace(self, Slot::Untouched) {
             Slot::New(now) => Some(Found { now, is_new: true }),
             Slot::Old(now) => Some(Found { now, is_new: false }),
-            slot => {
-                *self = slot;
-                None
-            }
+            Slot::Untouched | Slot::Gone => None,
         }
     }
 }
