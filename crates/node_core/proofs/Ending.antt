@@ -8,13 +8,12 @@ use Rattle.node_steps.specs.Steps.{risen_time, end_of_time, started_by}
 use Rattle.replica.specs.declared.kept.Kept.{Kept}
 use Rattle.replica.specs.Kept.{IsKeptOf}
 use Rattle.cs_base.specs.declared.ids.ReqId.{ReqId}
-use Rattle.node_core.specs.declared.memory.Begun.{Begun}
 use Rattle.node_core.specs.declared.memory.Made.{Made}
 use Rattle.node_core.specs.declared.memory.Memory.{Memory}
 use Rattle.node_core.specs.declared.outcome.Lost.{Lost}
 use Rattle.node_core.specs.declared.outcome.StepError.TheVariants.{Failed}
 use Rattle.node_core.specs.declared.work.Work.{Work}
-use Rattle.node_core.specs.Memory.{AreOutputsOf, HoldsCore, IsBegun, IsLost, core_behind, core_of, entry_made}
+use Rattle.node_core.specs.Memory.{AreOutputsOf, Begun, HoldsCore, IsBegun, IsLost, core_behind, core_of, entry_made}
 use Rattle.node_core.specs.Moving.{IsAbout, IsNewTo}
 use Rattle.node_core.specs.Nodes.{Core, HasRoom, Steps, WouldKeep}
 use Rattle.node_core.specs.Opening.{AreOrdered}
