@@ -42,15 +42,15 @@ past-kept n piece rest lt =
 pub goes_past : (pieces : List (List ℕ)) (next at n : ℕ) (piece : List ℕ) → next < length pieces → piece ≡ get_or pieces next piece → length piece - at ≤ n → behind 0 (drop (next + 1) pieces) ≡ past n (behind at (drop next pieces))
 goes_past pieces next at n piece there is le =
     rw (drop-at pieces next piece there is) (
-      behind-zero (drop (next + 1) pieces)
-      ∙ sym (past-gone n (drop at piece) (drop (next + 1) pieces) (rw (length-drop at piece) le)))
+    behind-zero (drop (next + 1) pieces)
+    ∙ sym (past-gone n (drop at piece) (drop (next + 1) pieces) (rw (length-drop at piece) le)))
 
 -- a step within a piece
 pub goes_on : (pieces : List (List ℕ)) (next at n : ℕ) (piece : List ℕ) → next < length pieces → piece ≡ get_or pieces next piece → n < length piece - at → behind (at + n) (drop next pieces) ≡ past n (behind at (drop next pieces))
 goes_on pieces next at n piece there is lt =
     rw (drop-at pieces next piece there is) (
-      ap (λ (left : List ℕ). left ∷ drop (next + 1) pieces) (sym (drop-drop n at piece))
-      ∙ sym (past-kept n (drop at piece) (drop (next + 1) pieces) (rw (length-drop at piece) lt)))
+    ap (λ (left : List ℕ). left ∷ drop (next + 1) pieces) (sym (drop-drop n at piece))
+    ∙ sym (past-kept n (drop at piece) (drop (next + 1) pieces) (rw (length-drop at piece) lt)))
 
 -- more room than a piece has bytes makes no difference
 pub past-min : (n : ℕ) (piece : List ℕ) (rest : List (List ℕ)) → past (min (length piece) n) (piece ∷ rest) ≡ past n (piece ∷ rest)
@@ -65,9 +65,9 @@ pub concat-past : (n : ℕ) (piece : List ℕ) (rest : List (List ℕ)) → n �
 concat-past n piece rest within =
     elim (leb_tells (length piece) n) [
       | inl gone ↦
-        let le = gone.1 in
-        let e : length piece ≡ n = omega (arith, le, within) in
-        ap concat (past-gone n piece rest gone.1) ∙ subst (λ (m : ℕ). concat rest ≡ drop m (piece ++ concat rest)) e (sym (drop-append_seam piece (concat rest)))
+          let le = gone.1 in
+          let e : length piece ≡ n = omega (arith, le, within) in
+          ap concat (past-gone n piece rest gone.1) ∙ subst (λ (m : ℕ). concat rest ≡ drop m (piece ++ concat rest)) e (sym (drop-append_seam piece (concat rest)))
       | inr kept ↦ ap concat (past-kept n piece rest kept.1) ∙ sym (drop-append-le n piece (concat rest) within)
     ]
 
@@ -85,23 +85,23 @@ idles_of-more (b ∷ piece) rest some = refl
 
 -- what a read that finds bytes takes
 pub takes-bytes :
-  (pieces rest pieces' : List (List ℕ)) (left buffer filled : List ℕ) (count : ℕ)
-  → pieces ≡ left ∷ rest
-  → 0 < length left
-  → count ≡ min (length left) (length buffer)
-  → filled ≡ take count left
-  → pieces' ≡ past count pieces
-  → Takes count (concat pieces) buffer (filled ++ drop count buffer) (Some (concat pieces'))
+    (pieces rest pieces' : List (List ℕ)) (left buffer filled : List ℕ) (count : ℕ)
+    → pieces ≡ left ∷ rest
+    → 0 < length left
+    → count ≡ min (length left) (length buffer)
+    → filled ≡ take count left
+    → pieces' ≡ past count pieces
+    → Takes count (concat pieces) buffer (filled ++ drop count buffer) (Some (concat pieces'))
 takes-bytes pieces rest pieces' left buffer filled count by some amount fill after =
     let within : count ≤ length left = omega (arith, amount) in
     let all : concat pieces ≡ left ++ concat rest = ap concat by in
     record {
       within = rw all (let sum = length-append left (concat rest) in omega (arith, within, sum));
       bytes =
-        ap (λ (v : List ℕ). v ++ drop count buffer)
+          ap (λ (v : List ℕ). v ++ drop count buffer)
           (fill ∙ sym (take-append-le count left (concat rest) within) ∙ sym (ap (take count) all));
       rest =
-        ap Some
+          ap Some
           (ap concat (after ∙ ap (past count) by) ∙ concat-past count left rest within ∙ sym (ap (drop count) all));
-      end = λ none room. absurd (omega (arith, some, amount, none, room))
+      end = λ none room. absurd (omega (arith, some, amount, none, room));
     }

@@ -32,7 +32,7 @@ impl Gate for OpenGate {
     fn pass(&self, _node: NodeId, _point: Point) {}
 }
 
-/// The request of a node that is the so-manyth at the point, from 1 on.
+/// A request, as the one of its node that comes to the point as the `number`-th, from 1 on.
 #[derive(Clone, Copy, Debug, PartialEq, Eq)]
 pub struct Passage {
     pub node: NodeId,
@@ -96,8 +96,12 @@ fn no_counts() -> [AtomicU64; NODES] {
 impl Gate for HoldGate {
     fn pass(&self, node: NodeId, point: Point) {
         let before = self.counter(node, point).fetch_add(1, Ordering::SeqCst);
-        let number = before.wrapping_add(1);
-        if self.held != (Passage { node, point, number }) {
+        let passage = Passage {
+            node,
+            point,
+            number: before.wrapping_add(1),
+        };
+        if passage != self.held {
             return;
         }
         for _ in 0..self.turns {

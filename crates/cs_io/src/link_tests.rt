@@ -1,8 +1,8 @@
 //! Links in memory, and signs and gates.
 
-use crate::{
-    Gate, Heard, HoldGate, Link, MemLink, NeverStop, OpenGate, Passage, Point, StopSign,
-};
+ghost use Rattle.std.specs.Prelude.{ℕ, ◌<◌, ◌≤◌};
+
+use crate::{Gate, Heard, HoldGate, Link, MemLink, NeverStop, OpenGate, Passage, Point, StopSign};
 use cs_base::{Bytes, Failed, NodeId};
 use std::alloc::{AllocError, Global};
 use std::test::Fail;
@@ -56,14 +56,17 @@ fn echo<L: Link>(alloc: Global, link: &mut L, room: usize) -> Result<Talk, Alloc
 
 // Writes all of the piece, and tells how many calls failed.
 fn send<L: Link>(link: &mut L, piece: &[u8]) -> u32 {
-    let mut sent = 0;
+    let mut rest = piece;
     let mut failed: u32 = 0;
     for _ in 0..1000 {
-        if sent == piece.len() {
+        if rest.is_empty() {
             break;
         }
-        match link.write(&piece[sent..]) {
-            Ok(count) => sent += count,
+        match link.write(rest) {
+            Ok(count) => {
+                let (_, behind) = rest.split_at(count);
+                rest = behind;
+            }
             Err(Failed) => failed = failed.saturating_add(1),
         }
     }
@@ -73,8 +76,8 @@ fn send<L: Link>(link: &mut L, piece: &[u8]) -> u32 {
 #[test]
 fn pieces_of_every_length_are_heard_whole(rt: HostRuntime) -> Result<(), Fail> {
     let alloc = rt.alloc();
-    for len in 1..=TEXT.len() + 1 {
-        for room in 1..=TEXT.len() {
+    for len in 1..=17 {
+        for room in 1..=16 {
             let pieces = cut(alloc, TEXT, len)?;
             let count = TEXT.len().div_ceil(len);
             let mut link = MemLink::new(alloc, pieces, room, Vec::new(alloc));
@@ -127,6 +130,23 @@ fn a_link_is_idle_and_ends(rt: HostRuntime) -> Result<(), Fail> {
     assert_eq!(rt; link.read(&mut buffer), Ok(Heard::End));
     assert_eq!(rt; buffer, *b"db");
     assert_eq!(rt; link.written(), b"wxy".as_slice());
+    Ok(())
+}
+
+// Written by another thread, to which the link is moved.
+#[test]
+fn a_link_moves_to_a_thread(rt: HostRuntime) -> Result<(), Fail> {
+    let alloc = rt.alloc();
+    let mut link = MemLink::new(alloc, cut(alloc, TEXT, 3)?, 4, Vec::new(alloc));
+    let (link, _) = join(
+        &rt,
+        move || {
+            send(&mut link, TEXT);
+            link
+        },
+        || (),
+    );
+    assert_eq!(rt; link.written(), TEXT);
     Ok(())
 }
 

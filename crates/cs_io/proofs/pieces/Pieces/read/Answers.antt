@@ -38,13 +38,13 @@ returns-clause-rest c =
     c.advance-2.ensures
     ∙ ap (λ (n : ℕ). past n c.args.self.now) c.min-count.ensures
     ∙ subst (λ (v : List (List ℕ)). past (min (length c.in-Some.left.now) (length c.args.buffer.now)) v ≡ past (length c.args.buffer.now) v) (sym (by-left c))
-      (past-min (length c.args.buffer.now) c.in-Some.left.now (drop 1 c.args.self.now))
+    (past-min (length c.args.buffer.now) c.in-Some.left.now (drop 1 c.args.self.now))
 
 pub returns-clause-heard : goal.returns-clause-heard
 returns-clause-heard c =
     takes-bytes c.args.self.now (drop 1 c.args.self.now) c.advance-2.new.self c.in-Some.left.now c.args.buffer.now
-      c.copy_from_slice.new.self c.min-count.result (by-left c) (is-more c.in-Some.left.now (sym c.if-is_empty.ensures))
-      c.min-count.ensures c.copy_from_slice.ensures.after c.advance-2.ensures
+    c.copy_from_slice.new.self c.min-count.result (by-left c) (is-more c.in-Some.left.now (sym c.if-is_empty.ensures))
+    c.min-count.ensures c.copy_from_slice.ensures.after c.advance-2.ensures
 
 pub returns-clause-idle : goal.returns-clause-idle
 returns-clause-idle c =
