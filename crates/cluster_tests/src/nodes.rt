@@ -80,33 +80,72 @@ fn told_of(alloc: Global, node: &mut Tested, message: Message) -> Result<Told, F
     Ok(last_told(&outputs))
 }
 
+/// What a write at QUORUM is told at its second acknowledgement, and at the same one again.
+fn told_at_a_quorum(
+    alloc: Global,
+    first: &mut Tested,
+    second: &mut Tested,
+) -> Result<[Told; 2], Fail> {
+    let message = asked(alloc, first, write(alloc, b"x", 5)?, Level::Quorum, 1)?;
+    let request = message.request;
+    let back = replied(alloc, second, message, 0)?;
+    let told = told_of(alloc, first, back)?;
+    let again = told_of(alloc, first, acknowledgement(1, request)?)?;
+    Ok([told, again])
+}
+
 #[test]
 fn a_quorum_acknowledges_a_write(rt: HostRuntime) -> Result<(), Fail> {
     let alloc = rt.alloc();
     let mut first = node(alloc, 0)?;
     let mut second = node(alloc, 1)?;
-    let message = asked(alloc, &mut first, write(alloc, b"x", 5)?, Level::Quorum, 1)?;
-    let request = message.request;
-    let back = replied(alloc, &mut second, message, 0)?;
-    assert!(rt; matches!(told_of(alloc, &mut first, back)?, Told::Acked(2)));
-    let again = acknowledgement(1, request)?;
-    assert!(rt; matches!(told_of(alloc, &mut first, again)?, Told::Nothing));
+    let told = told_at_a_quorum(alloc, &mut first, &mut second)?;
+    assert_eq!(rt; told, [Told::Acked(2), Told::Nothing]);
     Ok(())
+}
+
+/// The id of a write at ALL, whose messages are lost.
+fn written_at_all(alloc: Global, node: &mut Tested) -> Result<ReqId, Fail> {
+    let message = asked(alloc, node, write(alloc, b"x", 5)?, Level::All, 1)?;
+    Ok(message.request)
+}
+
+/// What is told when this node acknowledges a request.
+fn told_by_one(alloc: Global, node: &mut Tested, from: u8, request: ReqId) -> Result<Told, Fail> {
+    let message = acknowledgement(from, request)?;
+    told_of(alloc, node, message)
 }
 
 #[test]
 fn distinct_replicas_are_counted(rt: HostRuntime) -> Result<(), Fail> {
     let alloc = rt.alloc();
     let mut first = node(alloc, 0)?;
-    let message = asked(alloc, &mut first, write(alloc, b"x", 5)?, Level::All, 1)?;
-    let request = message.request;
+    let request = written_at_all(alloc, &mut first)?;
     for from in [1, 1, 5] {
-        let message = acknowledgement(from, request)?;
-        assert!(rt; matches!(told_of(alloc, &mut first, message)?, Told::Nothing));
+        assert_eq!(rt;
+            told_by_one(alloc, &mut first, from, request)?,
+            Told::Nothing
+        );
     }
-    let last = acknowledgement(2, request)?;
-    assert!(rt; matches!(told_of(alloc, &mut first, last)?, Told::Acked(3)));
+    assert_eq!(rt; told_by_one(alloc, &mut first, 2, request)?, Told::Acked(3));
     Ok(())
+}
+
+/// What is told of a write of x at this level.
+fn told_of_a_write(alloc: Global, node: &mut Tested, level: Level) -> Result<Told, Fail> {
+    told_at(alloc, node, write(alloc, b"x", 5)?, level)
+}
+
+/// What is told of a read at this level.
+fn told_of_a_read(alloc: Global, node: &mut Tested, level: Level) -> Result<Told, Fail> {
+    told_at(alloc, node, read(alloc)?, level)
+}
+
+/// What a read at QUORUM of the second node is told at the reply of the first one.
+fn told_at_a_reply(alloc: Global, first: &mut Tested, second: &mut Tested) -> Result<Told, Fail> {
+    let query = asked(alloc, second, read(alloc)?, Level::Quorum, 0)?;
+    let reply = replied(alloc, first, query, 1)?;
+    told_of(alloc, second, reply)
 }
 
 #[test]
@@ -114,22 +153,17 @@ fn a_quorum_answers_a_read(rt: HostRuntime) -> Result<(), Fail> {
     let alloc = rt.alloc();
     let mut first = node(alloc, 0)?;
     let mut second = node(alloc, 1)?;
-    let write = write(alloc, b"x", 5)?;
-    assert!(rt;
-        matches!(
-            told_at(alloc, &mut first, write, Level::One)?,
-            Told::Acked(1)
-        )
+    assert_eq!(rt;
+        told_of_a_write(alloc, &mut first, Level::One)?,
+        Told::Acked(1)
     );
-    let query = asked(alloc, &mut second, read(alloc)?, Level::Quorum, 0)?;
-    let reply = replied(alloc, &mut first, query, 1)?;
-    assert!(rt; matches!(told_of(alloc, &mut second, reply)?, Told::Shown(Some(b'x'))));
-    let read = read(alloc)?;
-    assert!(rt;
-        matches!(
-            told_at(alloc, &mut second, read, Level::One)?,
-            Told::Shown(None)
-        )
+    assert_eq!(rt;
+        told_at_a_reply(alloc, &mut first, &mut second)?,
+        Told::Shown(Some(b'x'))
+    );
+    assert_eq!(rt;
+        told_of_a_read(alloc, &mut second, Level::One)?,
+        Told::Shown(None)
     );
     Ok(())
 }
@@ -138,16 +172,27 @@ fn a_quorum_answers_a_read(rt: HostRuntime) -> Result<(), Fail> {
 fn a_read_waits_for_a_quorum(rt: HostRuntime) -> Result<(), Fail> {
     let alloc = rt.alloc();
     let mut first = node(alloc, 0)?;
-    let read = read(alloc)?;
-    assert!(rt;
-        matches!(
-            told_at(alloc, &mut first, read, Level::Quorum)?,
-            Told::Begun
-        )
+    assert_eq!(rt;
+        told_of_a_read(alloc, &mut first, Level::Quorum)?,
+        Told::Begun
     );
-    let write = write(alloc, b"x", 5)?;
-    assert!(rt; matches!(told_at(alloc, &mut first, write, Level::Two)?, Told::Begun));
+    assert_eq!(rt;
+        told_of_a_write(alloc, &mut first, Level::Two)?,
+        Told::Begun
+    );
     Ok(())
+}
+
+/// What is told where of two writes of the first node the later one comes to the second node first.
+fn told_out_of_order(
+    alloc: Global,
+    first: &mut Tested,
+    second: &mut Tested,
+) -> Result<[Told; 2], Fail> {
+    let early = asked(alloc, first, write(alloc, b"e", 5)?, Level::All, 1)?;
+    let late = asked(alloc, first, write(alloc, b"l", 6)?, Level::All, 1)?;
+    let told = told_of(alloc, second, late)?;
+    Ok([told, told_of(alloc, second, early)?])
 }
 
 #[test]
@@ -155,17 +200,10 @@ fn order_does_not_matter(rt: HostRuntime) -> Result<(), Fail> {
     let alloc = rt.alloc();
     let mut first = node(alloc, 0)?;
     let mut second = node(alloc, 1)?;
-    let early = asked(alloc, &mut first, write(alloc, b"e", 5)?, Level::All, 1)?;
-    let late = asked(alloc, &mut first, write(alloc, b"l", 6)?, Level::All, 1)?;
-    assert!(rt; matches!(told_of(alloc, &mut second, late)?, Told::Nothing));
-    assert!(rt; matches!(told_of(alloc, &mut second, early)?, Told::Nothing));
-    let read = read(alloc)?;
-    assert!(rt;
-        matches!(
-            told_at(alloc, &mut second, read, Level::LocalOne)?,
-            Told::Shown(Some(b'l'))
-        )
-    );
+    let told = told_out_of_order(alloc, &mut first, &mut second)?;
+    assert_eq!(rt; told, [Told::Nothing, Told::Nothing]);
+    let shown = told_of_a_read(alloc, &mut second, Level::LocalOne)?;
+    assert_eq!(rt; shown, Told::Shown(Some(b'l')));
     Ok(())
 }
 
@@ -173,27 +211,28 @@ fn order_does_not_matter(rt: HostRuntime) -> Result<(), Fail> {
 fn requests_are_refused(rt: HostRuntime) -> Result<(), Fail> {
     let alloc = rt.alloc();
     let mut alone = lone_node(alloc)?;
-    let two = told_at(alloc, &mut alone, write(alloc, b"x", 5)?, Level::Two)?;
-    assert!(rt;
-        matches!(
-            two,
-            Told::Refused(Refusal::Unavailable {
-                required: 2,
-                alive: 1
-            })
-        )
+    let few = Refusal::Unavailable {
+        required: 2,
+        alive: 1,
+    };
+    assert_eq!(rt;
+        told_of_a_write(alloc, &mut alone, Level::Two)?,
+        Told::Refused(few)
     );
-    let serial = told_at(alloc, &mut alone, write(alloc, b"x", 5)?, Level::Serial)?;
-    assert!(rt;
-        matches!(
-            serial,
-            Told::Refused(Refusal::Invalid(Invalid::SerialWrite))
-        )
+    let serial = Refusal::Invalid(Invalid::SerialWrite);
+    assert_eq!(rt;
+        told_of_a_write(alloc, &mut alone, Level::Serial)?,
+        Told::Refused(serial)
     );
-    let serial = told_at(alloc, &mut alone, read(alloc)?, Level::LocalSerial)?;
-    assert!(rt; matches!(serial, Told::Refused(Refusal::Invalid(Invalid::Level))));
-    let all = told_at(alloc, &mut alone, read(alloc)?, Level::All)?;
-    assert!(rt; matches!(all, Told::Shown(None)));
+    let level = Refusal::Invalid(Invalid::Level);
+    assert_eq!(rt;
+        told_of_a_read(alloc, &mut alone, Level::LocalSerial)?,
+        Told::Refused(level)
+    );
+    assert_eq!(rt;
+        told_of_a_read(alloc, &mut alone, Level::All)?,
+        Told::Shown(None)
+    );
     Ok(())
 }
 
@@ -243,18 +282,18 @@ fn too_few_replicas_are_alive(rt: HostRuntime) -> Result<(), Fail> {
     let mut first = node(alloc, 0)?;
     mark(alloc, &mut first, 1, false)?;
     mark(alloc, &mut first, 2, false)?;
-    let two = told_at(alloc, &mut first, read(alloc)?, Level::Two)?;
-    assert!(rt;
-        matches!(
-            two,
-            Told::Refused(Refusal::Unavailable {
-                required: 2,
-                alive: 1
-            })
-        )
+    let few = Refusal::Unavailable {
+        required: 2,
+        alive: 1,
+    };
+    assert_eq!(rt;
+        told_of_a_read(alloc, &mut first, Level::Two)?,
+        Told::Refused(few)
     );
-    let one = told_at(alloc, &mut first, write(alloc, b"x", 5)?, Level::One)?;
-    assert!(rt; matches!(one, Told::Acked(1)));
+    assert_eq!(rt;
+        told_of_a_write(alloc, &mut first, Level::One)?,
+        Told::Acked(1)
+    );
     Ok(())
 }
 
