@@ -108,27 +108,48 @@ fn a_call_that_fails_takes_and_writes_nothing(rt: HostRuntime) -> Result<(), Fai
     Ok(())
 }
 
+// An idle, three bytes and one, of which the third call fails.
+fn idle_link(alloc: Global) -> Result<MemLink, AllocError> {
+    let mut pieces = Vec::new(alloc);
+    pieces.push(Bytes::new(alloc))?;
+    for text in [b"abc".as_slice(), b"d"] {
+        pieces.push(Bytes::from_slice(alloc, text)?)?;
+    }
+    let failing = Vec::from_slice(alloc, &[3])?;
+    Ok(MemLink::new(alloc, pieces, 3, failing))
+}
+
+// How many bytes there is room for in each read, and what it hears, with what then stands in the buffer.
+const ROOMS: [usize; 8] = [2, 0, 2, 2, 2, 2, 2, 2];
+
+const HEARD: [(Result<Heard, Failed>, &[u8; 2]); 8] = [
+    (Ok(Heard::Idle), b"--"),
+    (Ok(Heard::Bytes(0)), b"--"),
+    (Err(Failed), b"--"),
+    (Ok(Heard::Bytes(2)), b"ab"),
+    (Ok(Heard::Bytes(1)), b"c-"),
+    (Ok(Heard::Bytes(1)), b"d-"),
+    (Ok(Heard::End), b"--"),
+    (Ok(Heard::End), b"--"),
+];
+
+fn hear(link: &mut MemLink, room: usize) -> (Result<Heard, Failed>, [u8; 2]) {
+    let mut buffer = *b"--";
+    let heard = match buffer.get_mut(..room) {
+        Some(space) => link.read(space),
+        None => Err(Failed),
+    };
+    (heard, buffer)
+}
+
 #[test]
 fn a_link_is_idle_and_ends(rt: HostRuntime) -> Result<(), Fail> {
     let alloc = rt.alloc();
-    let mut pieces = Vec::new(alloc);
-    pieces.push(Bytes::new(alloc))?;
-    pieces.push(Bytes::from_slice(alloc, b"abc")?)?;
-    pieces.push(Bytes::from_slice(alloc, b"d")?)?;
-    let mut link = MemLink::new(alloc, pieces, 3, Vec::from_slice(alloc, &[3])?);
-    let mut buffer = [0; 2];
-    assert_eq!(rt; link.read(&mut buffer), Ok(Heard::Idle));
-    assert_eq!(rt; link.read(&mut []), Ok(Heard::Bytes(0)));
-    assert_eq!(rt; link.read(&mut buffer), Err(Failed));
-    assert_eq!(rt; link.read(&mut buffer), Ok(Heard::Bytes(2)));
-    assert_eq!(rt; buffer, *b"ab");
-    assert_eq!(rt; link.read(&mut buffer), Ok(Heard::Bytes(1)));
-    assert_eq!(rt; buffer, *b"cb");
+    let mut link = idle_link(alloc)?;
+    for (room, (heard, text)) in ROOMS.into_iter().zip(HEARD) {
+        assert_eq!(rt; hear(&mut link, room), (heard, *text));
+    }
     assert_eq!(rt; link.write(b"wxyz"), Ok(3));
-    assert_eq!(rt; link.read(&mut buffer), Ok(Heard::Bytes(1)));
-    assert_eq!(rt; link.read(&mut buffer), Ok(Heard::End));
-    assert_eq!(rt; link.read(&mut buffer), Ok(Heard::End));
-    assert_eq!(rt; buffer, *b"db");
     assert_eq!(rt; link.written(), b"wxy".as_slice());
     Ok(())
 }
