@@ -50,7 +50,7 @@ IsAtNodes nodes (event.Merge node) = node < nodes
 abbrev pub EventsAreAtNodes : Type 0
 EventsAreAtNodes = (text : List ℕ) (script : Script) → IsRead text (Ok script) → All (IsAtNodes (length script.ring)) script.events
 
--- what an event says in CQL is a statement
+-- the statement of each event is that of its text
 abbrev pub StatementsAreRead : Type 0
 StatementsAreRead = (text : List ℕ) (script : Script) → IsRead text (Ok script) → All IsSaid script.events
 

@@ -13,6 +13,8 @@ use Rattle.cs_store.specs.declared.mem_file.Outcome.{Outcome}
 use Rattle.cs_store.specs.declared.mem_file.Outcome.TheVariants.{Kept, Lost, Torn}
 use Rattle.fault_script.specs.declared.script.ScriptEvent.{ScriptEvent}
 use Rattle.fault_script.specs.declared.script.ScriptEvent.TheVariants as event
+use Rattle.fault_script.specs.declared.script.EventLine.{EventLine}
+use Rattle.fault_script.specs.declared.script.EventLine.TheVariants as says
 use Rattle.fault_script.specs.declared.script.MessagePlace.{MessagePlace}
 use Rattle.fault_script.specs.declared.script.Fault.{Fault}
 use Rattle.fault_script.specs.declared.script.Fault.TheVariants as fault
@@ -351,33 +353,33 @@ abbrev pub event_line : ℕ → List (List ℕ) → Result ScriptEvent Fault
 event_line nodes [] = Err fault.Line
 event_line nodes (word ∷ words) = word_line nodes word words
 
--- ---- events with a statement
+-- ---- lines with a statement
 
-abbrev pub cql_of : Option ℕ → Option Level → List ℕ → Option ScriptEvent
-cql_of (Some node) (Some level) text = Some (event.Cql (record { node = node; level = level; text = text }))
+abbrev pub cql_of : Option ℕ → Option Level → List ℕ → Option EventLine
+cql_of (Some node) (Some level) text = Some (says.Cql node level text)
 cql_of _ _ text = None
 
 -- what stands behind the node is the level and the statement
-abbrev pub cql_behind : ℕ → List ℕ → Option (List ℕ × List ℕ) → Result ScriptEvent Fault
+abbrev pub cql_behind : ℕ → List ℕ → Option (List ℕ × List ℕ) → Result EventLine Fault
 cql_behind nodes node None = Err fault.Line
 cql_behind nodes node (Some rest) = understood fault.Line (is_number node) (cql_of (node_of nodes node) (level_of rest.0) rest.1)
 
-abbrev pub cql_from : ℕ → Option (List ℕ × List ℕ) → Result ScriptEvent Fault
+abbrev pub cql_from : ℕ → Option (List ℕ × List ℕ) → Result EventLine Fault
 cql_from nodes None = Err fault.Line
 cql_from nodes (Some rest) = cql_behind nodes rest.0 (first_word rest.1)
 
 -- `<node> <level> <statement>`
-abbrev pub cql_line : ℕ → List ℕ → Result ScriptEvent Fault
+abbrev pub cql_line : ℕ → List ℕ → Result EventLine Fault
 cql_line nodes text = cql_from nodes (first_word text)
 
 abbrev pub event_of_words : ℕ → Option (List (List ℕ)) → Result ScriptEvent Fault
 event_of_words nodes None = Err fault.Line
 event_of_words nodes (Some words) = event_line nodes words
 
-abbrev pub event_of : ℕ → List ℕ → Option (List ℕ) → Result ScriptEvent Fault
+abbrev pub event_of : ℕ → List ℕ → Option (List ℕ) → Result EventLine Fault
 event_of nodes line (Some text) = cql_line nodes text
-event_of nodes line None = event_of_words nodes (words_of line)
+event_of nodes line None = result_map says.Event (event_of_words nodes (words_of line))
 
 -- what a line behind `run` says
-abbrev pub event_at : ℕ → List ℕ → Result ScriptEvent Fault
+abbrev pub event_at : ℕ → List ℕ → Result EventLine Fault
 event_at nodes line = event_of nodes line (behind (codes "cql ") line)

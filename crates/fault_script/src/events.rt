@@ -12,7 +12,7 @@ use crate::numbers::{
     is_number, is_signed_number, level_of, long_value, node_of, number_within, outcome_of,
 };
 use crate::script::{
-    CqlRequest, Fault, GetRequest, LineError, MessagePlace, PutRequest, ScriptEvent,
+    EventLine, Fault, GetRequest, LineError, MessagePlace, PutRequest, ScriptEvent,
 };
 use cs_base::{Micros, NodeId, Text};
 use std::alloc::Global;
@@ -279,8 +279,8 @@ fn event_line(alloc: Global, nodes: u8, words: &[&str]) -> Result<ScriptEvent, L
     }
 }
 
-/// What a line `cql` does, of which the node, the level and the statement are left.
-fn cql_line(alloc: Global, nodes: u8, text: &str) -> Result<ScriptEvent, LineError>
+/// What a line `cql` says, of which the node, the level and the statement are left.
+fn cql_line(alloc: Global, nodes: u8, text: &str) -> Result<EventLine, LineError>
     requires some { 1 ≤ nodes }
     requires few { nodes ≤ 7 }
     ensures { LineGives result (cql_line_of nodes text.now) }
@@ -301,11 +301,11 @@ fn cql_line(alloc: Global, nodes: u8, text: &str) -> Result<ScriptEvent, LineErr
         return Err(LineError::Fault(Fault::Number));
     };
     let text = Text::from_str(alloc, statement)?;
-    Ok(ScriptEvent::Cql(CqlRequest { node, level, text }))
+    Ok(EventLine::Cql(node, level, text))
 }
 
-/// What a line does, at so many nodes.
-pub fn event_at(alloc: Global, nodes: u8, line: &[u8]) -> Result<ScriptEvent, LineError>
+/// What a line says, at so many nodes.
+pub fn event_at(alloc: Global, nodes: u8, line: &[u8]) -> Result<EventLine, LineError>
     requires line { 0 < length line.now }
     requires some { 1 ≤ nodes }
     requires few { nodes ≤ 7 }
@@ -315,7 +315,7 @@ pub fn event_at(alloc: Global, nodes: u8, line: &[u8]) -> Result<ScriptEvent, Li
         return cql_line(alloc, nodes, text);
     }
     match words(alloc, line)? {
-        Some(words) => event_line(alloc, nodes, &words),
+        Some(words) => Ok(EventLine::Event(event_line(alloc, nodes, &words)?)),
         None => Err(LineError::Fault(Fault::Line)),
     }
 }

@@ -3,6 +3,7 @@
 ghost use Rattle.std.specs.Prelude.{◌≡◌};
 ghost use Rattle.fault_script.specs.declared.script.LineError.TheVariants.{Fault as LineFault, NoMemory as LineMemory};
 
+use cql_statement::Statement;
 use cs_base::{Items, Level, Micros, NodeId, Text};
 use cs_store::Outcome;
 use schema_book::Schema;
@@ -80,12 +81,23 @@ pub struct GetRequest {
     pub key: Text,
 }
 
-/// A line `cql`: a statement as it is written.
+/// A line `cql`: a statement.
 #[derive(Debug, Drop)]
 pub struct CqlRequest {
     pub node: NodeId,
     pub level: Level,
+    /// As it is written.
     pub text: Text,
+    /// As it is read.
+    pub statement: Statement,
+}
+
+/// What a line after `run` says before its statement is read.
+#[derive(Debug, Drop)]
+pub enum EventLine {
+    Event(ScriptEvent),
+    /// At a node and a level the statement of this text.
+    Cql(NodeId, Level, Text),
 }
 
 /// The message that is this one, from 1 on, of all that one node ever sends to another. There is no message 0.

@@ -10,6 +10,8 @@ use Rattle.std.proofs.lemmas.Str.{IsUtf8-drop, IsCharBoundary-after_ascii}
 use Rattle.cs_base.specs.declared.level.Level.{Level}
 use Rattle.fault_script.specs.declared.script.ScriptEvent.{ScriptEvent}
 use Rattle.fault_script.specs.declared.script.ScriptEvent.TheVariants as event
+use Rattle.fault_script.specs.declared.script.EventLine.{EventLine}
+use Rattle.fault_script.specs.declared.script.EventLine.TheVariants as asks
 use Rattle.fault_script.specs.declared.script.PutRequest.{PutRequest}
 use Rattle.fault_script.specs.declared.script.GetRequest.{GetRequest}
 use Rattle.fault_script.specs.declared.script.CqlRequest.{CqlRequest}
@@ -74,6 +76,11 @@ IsFitEvent nodes (event.FailAt node call) = IsFitPair nodes 1 4294967295 node ca
 IsFitEvent nodes (event.Restart node) = IsNode nodes node
 IsFitEvent nodes (event.Flush node) = IsNode nodes node
 IsFitEvent nodes (event.Merge node) = IsNode nodes node
+
+-- what a line says, before its statement is read
+abbrev pub FitLine : ℕ → EventLine → Type 0
+FitLine nodes (asks.Event e) = IsFitEvent nodes e
+FitLine nodes (asks.Cql node level text) = IsNode nodes node × IsRest text
 
 -- ---- words
 
@@ -233,17 +240,17 @@ first_word_fits text is =
     let space : get_or text place 0 ≡ 32 = eqb-true (get_or text place 0) 32 (passes_at_first is_space text 0 inside) in
     rest_of (after_first is_space text) (IsUtf8-drop text (place + 1) is.text (IsCharBoundary-after_ascii text place is.text inside (omega (arith, space)))) (lacks_drop 10 (place + 1) text is.inline))
 
-cql_of_fits : (nodes : ℕ) (node : Option ℕ) (level : Option Level) (text : List ℕ) → IfSome node (IsNode nodes) → IsRest text → IfSome (cql_of node level text) (IsFitEvent nodes)
+cql_of_fits : (nodes : ℕ) (node : Option ℕ) (level : Option Level) (text : List ℕ) → IfSome node (IsNode nodes) → IsRest text → IfSome (cql_of node level text) (FitLine nodes)
 cql_of_fits nodes None level text is rest = tt
 cql_of_fits nodes (Some node) None text is rest = tt
-cql_of_fits nodes (Some node) (Some level) text is rest = record { node = is; text = rest }
+cql_of_fits nodes (Some node) (Some level) text is rest = (is, rest)
 
-cql_behind_fits : (nodes : ℕ) (node : List ℕ) (rest : Option (List ℕ × List ℕ)) → IfSome rest (λ r. IsRest r.1) → IfOk (cql_behind nodes node rest) (IsFitEvent nodes)
+cql_behind_fits : (nodes : ℕ) (node : List ℕ) (rest : Option (List ℕ × List ℕ)) → IfSome rest (λ r. IsRest r.1) → IfOk (cql_behind nodes node rest) (FitLine nodes)
 cql_behind_fits nodes node None is = tt
 cql_behind_fits nodes node (Some rest) is =
-    understood_where (IsFitEvent nodes) fault.Line (is_number node) (cql_of (node_of nodes node) (level_of rest.0) rest.1) (λ _. cql_of_fits nodes (node_of nodes node) (level_of rest.0) rest.1 (node_fits nodes node) is)
+    understood_where (FitLine nodes) fault.Line (is_number node) (cql_of (node_of nodes node) (level_of rest.0) rest.1) (λ _. cql_of_fits nodes (node_of nodes node) (level_of rest.0) rest.1 (node_fits nodes node) is)
 
-cql_from_fits : (nodes : ℕ) (rest : Option (List ℕ × List ℕ)) → IfSome rest (λ r. IsRest r.1) → IfOk (cql_from nodes rest) (IsFitEvent nodes)
+cql_from_fits : (nodes : ℕ) (rest : Option (List ℕ × List ℕ)) → IfSome rest (λ r. IsRest r.1) → IfOk (cql_from nodes rest) (FitLine nodes)
 cql_from_fits nodes None is = tt
 cql_from_fits nodes (Some rest) is = cql_behind_fits nodes rest.0 (first_word rest.1) (first_word_fits rest.1 is)
 
@@ -254,9 +261,10 @@ event_words_fit nodes (Some words) are = event_line_fits nodes words are
 pub line_words_fit : (line : List ℕ) → lacks 10 line ≡ true → IfSome (words_of line) AreWords
 line_words_fit line inline = some_from AreWords (words_of line) (λ words found. words_are_words line words inline found)
 
-event_of_fits : (nodes : ℕ) (line : List ℕ) (text : Option (List ℕ)) → lacks 10 line ≡ true → IfSome text IsRest → IfOk (event_of nodes line text) (IsFitEvent nodes)
+event_of_fits : (nodes : ℕ) (line : List ℕ) (text : Option (List ℕ)) → lacks 10 line ≡ true → IfSome text IsRest → IfOk (event_of nodes line text) (FitLine nodes)
 event_of_fits nodes line (Some text) inline is = cql_from_fits nodes (first_word text) (first_word_fits text is)
-event_of_fits nodes line None inline is = event_words_fit nodes (words_of line) (line_words_fit line inline)
+event_of_fits nodes line None inline is =
+    result_map_holds (FitLine nodes) asks.Event (event_of_words nodes (words_of line)) (event_words_fit nodes (words_of line) (line_words_fit line inline))
 
-pub event_at_fits : (nodes : ℕ) (line : List ℕ) → lacks 10 line ≡ true → IfOk (event_at nodes line) (IsFitEvent nodes)
+pub event_at_fits : (nodes : ℕ) (line : List ℕ) → lacks 10 line ≡ true → IfOk (event_at nodes line) (FitLine nodes)
 event_at_fits nodes line inline = event_of_fits nodes line (behind (codes "cql ") line) inline (behind_fits (codes "cql ") line inline)
