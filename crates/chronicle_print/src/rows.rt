@@ -9,7 +9,7 @@ ghost use Rattle.statement_plan.specs.declared.plan.Columns.TheVariants.{Listed}
 use crate::lines::push_number;
 use changes::{Partition, ShownRow};
 use peer_messages::Entry;
-use row_values::{push_values, values_of};
+use row_values::push_lines;
 use schema_book::{ColumnDef, Table};
 use statement_plan::Columns;
 use std::alloc::{AllocError, Global};
@@ -49,39 +49,6 @@ fn push_count(alloc: Global, out: &mut Vec<u8>, number: u64, count: u64) -> Resu
     Ok(())
 }
 
-fn push_row(
-    alloc: Global,
-    out: &mut Vec<u8>,
-    columns: &[ColumnDef],
-    key: &[u8],
-    listed: &[u8],
-    row: &ShownRow,
-) -> Result<(), AllocError>
-    ensures { OnOk result ((line : List ℕ) × IsRowLine columns.now key.now listed.now row.now line × (out.new.items ≡ out.old.items ++ line)) }
-{
-    let values = values_of(alloc, columns, key, row)?;
-    out.push(b' ')?;
-    push_values(alloc, out, values.as_slice(), listed)?;
-    out.push(b'\n')?;
-    Ok(())
-}
-
-fn push_each_row(
-    alloc: Global,
-    out: &mut Vec<u8>,
-    columns: &[ColumnDef],
-    key: &[u8],
-    listed: &[u8],
-    rows: &[ShownRow],
-) -> Result<(), AllocError>
-    ensures { OnOk result ((lines : List ℕ) × AreRowLines (IsRowLine columns.now key.now listed.now) rows.now lines × (out.new.items ≡ out.old.items ++ lines)) }
-{
-    for row in rows {
-        push_row(alloc, out, columns, key, listed, row)?;
-    }
-    Ok(())
-}
-
 fn push_listed(
     alloc: Global,
     out: &mut Vec<u8>,
@@ -94,7 +61,8 @@ fn push_listed(
     ensures { OnOk result ((behind : List ℕ) × AreRowLines (IsRowLine columns.now key.now listed.now) rows.now behind × (out.new.items ≡ out.old.items ++ (rows_line number (length rows.now) ++ behind))) }
 {
     push_rows_line(alloc, out, number, rows.len() as u64)?;
-    push_each_row(alloc, out, columns, key, listed, rows)
+    push_lines(alloc, out, columns, key, listed, rows)?;
+    Ok(())
 }
 
 fn push_shaped(

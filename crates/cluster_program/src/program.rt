@@ -23,6 +23,7 @@ use fault_script::{
 };
 use list_replica::MemListReplica;
 use std::alloc::{AllocError, Global};
+use std::mem;
 
 /// How the program ended. `script` never ends with `StoreFault`, `DoorFault`, `NoThread`, `HistoryFull` or `Damaged`,
 /// which are for serving connections.
@@ -133,7 +134,9 @@ fn print_run<S: Source>(alloc: Global, source: &mut S) -> Result<Vec<u8>, Refusa
     ensures failed { IsErrOf result Refusal.ReadFault → HasRisen (S.faults source.old) (S.faults source.new) }
 {
     let script = read_script(alloc, source)?;
-    Ok(run::<MemListReplica>(alloc, &script)?)
+    let text = run::<MemListReplica>(alloc, &script)?;
+    mem::forget(script);
+    Ok(text)
 }
 
 /// The command that the words name.

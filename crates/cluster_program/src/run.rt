@@ -18,6 +18,7 @@ use peer_messages::{Entries, Entry, Setting};
 use replica::MemReplica;
 use schema_book::Schema;
 use std::alloc::{AllocError, Global};
+use std::mem;
 
 fn name_of(keyspace: &Option<Text>) -> Option<&str>
     ensures { option_copied result ≡ keyspace.now }
@@ -114,5 +115,8 @@ pub fn run<R: MemReplica>(alloc: Global, script: &Script) -> Result<Vec<u8>, All
         &mut cluster,
         script.events.as_slice(),
     )?;
-    print_chronicle(alloc, script.schema.tables(), cluster.chronicle())
+    let text = print_chronicle(alloc, script.schema.tables(), cluster.chronicle())?;
+    // The process ends behind its run: to let go of each message and entry alone would take longer than to print them.
+    mem::forget(cluster);
+    Ok(text)
 }

@@ -182,22 +182,42 @@ fn bounds_of_greatest_bytes(rt: HostRuntime) -> Result<(), Fail> {
     Ok(())
 }
 
+// These rows, and the deletion of row a.
+fn without_row(alloc: Global, rows: &str) -> Result<Content, Fail> {
+    Ok(of_rows(alloc, rows, Some(rows_gone(alloc, "a", "a", 1)?))?)
+}
+
+fn merged(alloc: Global) -> Result<Content, Fail> {
+    let first = of_rows(alloc, "a b d", None)?;
+    Ok(first.merge(alloc, without_row(alloc, "b c")?)?)
+}
+
 #[test]
 fn merged_contents_have_both(rt: HostRuntime) -> Result<(), Fail> {
     let alloc = rt.alloc();
+    let both = merged(alloc)?;
+    assert!(rt; both.is_same(&without_row(alloc, "c d b")?));
+    assert!(rt; !both.is_same(&of_rows(alloc, "a b d", None)?));
+    assert_eq!(rt; both.into_changes().len(), 4);
+    Ok(())
+}
+
+#[test]
+fn contents_are_the_same_where_their_changes_are(rt: HostRuntime) -> Result<(), Fail> {
+    let alloc = rt.alloc();
     let first = of_rows(alloc, "a b d", None)?;
-    let second = of_rows(alloc, "b c", Some(rows_gone(alloc, "a", "a", 1)?))?;
-    assert!(rt; !first.is_same(&second));
-    let copy = first.copy(alloc)?;
-    assert!(rt; copy.is_same(&first));
-    let expected = of_rows(alloc, "c d b", Some(rows_gone(alloc, "a", "a", 1)?))?;
-    let both = first.merge(alloc, second)?;
-    assert!(rt; both.is_same(&expected));
-    assert!(rt; !both.is_same(&copy));
+    assert!(rt; first.copy(alloc)?.is_same(&first));
+    assert!(rt; !first.is_same(&without_row(alloc, "b c")?));
+    Ok(())
+}
+
+#[test]
+fn a_merge_with_nothing_changes_nothing(rt: HostRuntime) -> Result<(), Fail> {
+    let alloc = rt.alloc();
+    let both = merged(alloc)?;
     let wide = both.copy(alloc)?.merge(alloc, Content::new(alloc))?;
     assert!(rt; wide.is_same(&both));
     assert!(rt; Content::new(alloc).merge(alloc, wide)?.is_same(&both));
-    assert_eq!(rt; both.into_changes().len(), 4);
     Ok(())
 }
 

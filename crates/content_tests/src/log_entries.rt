@@ -7,7 +7,7 @@ use row_change::{
 use std::alloc::{AllocError, Global};
 use std::test::Fail;
 
-/// What stands behind place and value: timestamp -2, submitted at 5, by request 9 of node 6.
+/// What stands behind place and value: timestamp -2, submitted at 5, by node 6's request of time 9.
 const STAMP: &[u8] = b"\xff\xff\xff\xff\xff\xff\xff\xfe\0\0\0\0\0\0\0\x05\x06\0\0\0\0\0\0\0\x09";
 
 /// Tag, place and value of a change of each kind, in the order of places.
@@ -72,7 +72,7 @@ const PARTITION: &[u8] = b"\0\x03\xff\xff\xff\xff\xff\xff\xff\xf9\0\0\0\x01k";
 const BALLOTS: &[u8] =
     b"\0\0\0\0\0\0\0\x10\0\0\0\0\0\0\0\x08\0\0\0\0\0\0\0\x09\0\0\0\0\0\0\0\0\0\0\0\0\0\0\0\x0b\0\0\0\0\0\0\0\0\0\0\0\0\0\0\0\0\0\0\0\0\0\0\x01\x06";
 
-/// Ballot 9 with an update without changes, of request 4 of node 1, upon ballot 3.
+/// Ballot 9 with an update without changes, of node 1's request of time 4, upon ballot 3.
 const STAMPED: &[u8] = b"\x01\0\0\0\0\0\0\0\x09\x01\0\0\0\0\0\0\0\x04\0\0\0\0\0\0\0\x03\0\0\0\0";
 
 /// An item of each kind.

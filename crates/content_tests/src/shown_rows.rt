@@ -50,29 +50,40 @@ fn cell(alloc: Global, row: &str, column: u8) -> Result<Place, AllocError> {
     Ok(Place::Cell(bytes(alloc, row)?, column))
 }
 
+// Cells as row, column, value and timestamp; without a value the cell is deleted.
+const CELLS: [(&str, u8, Option<&str>, i64); 11] = [
+    ("a", 4, Some("y"), 1),
+    ("a", 3, Some("x"), 1),
+    ("b", 3, Some("x"), 1),
+    ("b", 3, None, 2),
+    ("d", 3, None, 1),
+    ("e", 3, Some("x"), 1),
+    ("f", 3, Some("z"), 3),
+    ("g", 3, Some("x"), 1),
+    ("h", 3, Some(""), 9),
+    ("i", 3, None, 2),
+    ("i", 5, Some("u"), 2),
+];
+
 /// Row a has two cells; b had one, and a marker; c has a marker alone; d has a deleted cell alone; e is deleted, and had a
 /// cell before; f is deleted, and has a cell since; those from g to h are deleted, and have a cell before in g and one
 /// since in h; i has a deleted cell and another one.
 fn worked(alloc: Global) -> Result<Content, AllocError> {
     let mut changes = Vec::new(alloc);
-    let rows = &mut changes;
-    put(alloc, rows, cell(alloc, "a", 4)?, Some("y"), 1)?;
-    put(alloc, rows, cell(alloc, "a", 3)?, Some("x"), 1)?;
-    put(alloc, rows, cell(alloc, "b", 3)?, Some("x"), 1)?;
-    put(alloc, rows, cell(alloc, "b", 3)?, None, 2)?;
-    put(alloc, rows, Place::Marker(bytes(alloc, "b")?), Some(""), 1)?;
-    put(alloc, rows, Place::Marker(bytes(alloc, "c")?), Some(""), 1)?;
-    put(alloc, rows, cell(alloc, "d", 3)?, None, 1)?;
-    put(alloc, rows, cell(alloc, "e", 3)?, Some("x"), 1)?;
-    put(alloc, rows, Place::RowGone(bytes(alloc, "e")?), None, 2)?;
-    put(alloc, rows, Place::RowGone(bytes(alloc, "f")?), None, 2)?;
-    put(alloc, rows, cell(alloc, "f", 3)?, Some("z"), 3)?;
-    put(alloc, rows, cell(alloc, "g", 3)?, Some("x"), 1)?;
-    put(alloc, rows, cell(alloc, "h", 3)?, Some(""), 9)?;
     let gone = Place::RangeGone(bound(alloc, "g", false)?, bound(alloc, "h", true)?);
-    put(alloc, rows, gone, None, 5)?;
-    put(alloc, rows, cell(alloc, "i", 3)?, None, 2)?;
-    put(alloc, rows, cell(alloc, "i", 5)?, Some("u"), 2)?;
+    put(alloc, &mut changes, gone, None, 5)?;
+    for row in ["b", "c"] {
+        let marker = Place::Marker(bytes(alloc, row)?);
+        put(alloc, &mut changes, marker, Some(""), 1)?;
+    }
+    for row in ["e", "f"] {
+        let gone = Place::RowGone(bytes(alloc, row)?);
+        put(alloc, &mut changes, gone, None, 2)?;
+    }
+    for (row, column, value, timestamp) in CELLS {
+        let place = cell(alloc, row, column)?;
+        put(alloc, &mut changes, place, value, timestamp)?;
+    }
     Content::from_changes(alloc, changes)
 }
 

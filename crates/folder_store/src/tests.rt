@@ -40,33 +40,83 @@ all fs_order/2;";
 // File 9 is written and not synced, and eight others are used.
 const USED: &str = "write fs_order/2/9;data fs_order/2/9;";
 
-#[test]
-fn what_is_synced_and_when(rt: HostRuntime) -> Result<(), Fail> {
-    let _ = fs::remove_dir_all(&rt, "fs_order");
-    let node = NodeId::new(2).ok_or("a node")?;
-    let noting = Noting::new(rt.clone()?)?;
-    let mut stores = DirStores::new(noting.clone()?);
-    let store = stores.take("fs_order", node)?;
-    assert_eq!(rt; noting.take()?.as_str(), FORMATTED);
-    stores.back(node, store);
-    let mut store = stores.take("fs_order", node)?;
-    assert_eq!(rt; noting.take()?.as_str(), TAKEN);
-    let f = FileNo::new(9).ok_or("a file")?;
+const SYNCED: &str = "all fs_order/2;data fs_order/2/9;";
+
+type Noted = FileStore<Noting>;
+
+// What was noted since the last look.
+fn expect_noted(noting: &Noting, expected: &str) -> Result<(), Fail> {
+    if noting.take()?.as_str() == expected {
+        Ok(())
+    } else {
+        Err("other calls".into())
+    }
+}
+
+fn mode(rt: &HostRuntime, path: &str) -> Result<u32, Fail> {
+    Ok(fs::metadata(rt, path)?.mode() & 0o777)
+}
+
+fn file(number: u16) -> Result<FileNo, Fail> {
+    Ok(FileNo::new(number).ok_or("a file")?)
+}
+
+// Writes file 9, without a sync, and looks at eight others.
+fn write_and_look(store: &mut Noted) -> Result<(), Fail> {
+    let f = file(9)?;
     store.reserve(f, 1)?;
     store.write_at(f, 0, b"x")?;
     for number in 10..18 {
-        store.len(FileNo::new(number).ok_or("a file")?)?;
+        store.len(file(number)?)?;
     }
-    assert_eq!(rt; noting.take()?.as_str(), USED);
-    store.sync(f)?;
-    assert_eq!(rt;
-        noting.take()?.as_str(),
-        "all fs_order/2;data fs_order/2/9;"
-    );
-    assert_eq!(rt; fs::metadata(&rt, "fs_order/2")?.mode() & 0o777, 0o700);
-    assert_eq!(rt; fs::metadata(&rt, "fs_order/2/9")?.mode() & 0o777, 0o600);
+    Ok(())
+}
+
+fn use_files(noting: &Noting, store: &mut Noted) -> Result<(), Fail> {
+    write_and_look(store)?;
+    expect_noted(noting, USED)?;
+    store.sync(file(9)?)?;
+    expect_noted(noting, SYNCED)
+}
+
+fn take_twice(noting: &Noting, stores: &mut DirStores<Noting>) -> Result<(), Fail> {
+    let node = NodeId::new(2).ok_or("a node")?;
+    let store = stores.take("fs_order", node)?;
+    stores.back(node, store);
+    expect_noted(noting, FORMATTED)?;
+    let mut store = stores.take("fs_order", node)?;
+    expect_noted(noting, TAKEN)?;
+    use_files(noting, &mut store)
+}
+
+#[test]
+fn what_is_synced_and_when(rt: HostRuntime) -> Result<(), Fail> {
+    let _ = fs::remove_dir_all(&rt, "fs_order");
+    let noting = Noting::new(rt.clone()?)?;
+    let mut stores = DirStores::new(noting.clone()?);
+    take_twice(&noting, &mut stores)?;
+    assert_eq!(rt; mode(&rt, "fs_order/2")?, 0o700);
+    assert_eq!(rt; mode(&rt, "fs_order/2/9")?, 0o600);
     fs::remove_dir_all(&rt, "fs_order")?;
     Ok(())
+}
+
+fn put_in_node(stores: &mut DirStores<HostRuntime>, number: u8, byte: u8) -> Result<(), Fail> {
+    let node = NodeId::new(number).ok_or("a node")?;
+    let mut store = stores.take("fs_nodes", node)?;
+    send(&store);
+    put(&mut store, 1, byte)?;
+    stores.back(node, store);
+    Ok(())
+}
+
+// The first bytes of files 1 and 0.
+fn firsts_of_node(stores: &mut DirStores<HostRuntime>, number: u8) -> Result<(u8, u8), Fail> {
+    let node = NodeId::new(number).ok_or("a node")?;
+    let mut store = stores.take("fs_nodes", node)?;
+    let firsts = (first(&mut store, 1)?, first(&mut store, 0)?);
+    stores.back(node, store);
+    Ok(firsts)
 }
 
 #[test]
@@ -74,21 +124,27 @@ fn each_node_has_its_files(rt: HostRuntime) -> Result<(), Fail> {
     let _ = fs::remove_dir_all(&rt, "fs_nodes");
     let mut stores = DirStores::new(rt.clone()?);
     for (number, byte) in [(0, b'a'), (6, b'b')] {
-        let node = NodeId::new(number).ok_or("a node")?;
-        let mut store = stores.take("fs_nodes", node)?;
-        send(&store);
-        put(&mut store, 1, byte)?;
-        stores.back(node, store);
+        put_in_node(&mut stores, number, byte)?;
     }
     for (number, byte) in [(0, b'a'), (6, b'b')] {
-        let node = NodeId::new(number).ok_or("a node")?;
-        let mut store = stores.take("fs_nodes", node)?;
-        assert_eq!(rt; first(&mut store, 1)?, byte);
-        assert_eq!(rt; first(&mut store, 0)?, 0);
-        stores.back(node, store);
+        assert_eq!(rt; firsts_of_node(&mut stores, number)?, (byte, 0));
     }
     fs::remove_dir_all(&rt, "fs_nodes")?;
     Ok(())
+}
+
+// How many faults three calls make that fail.
+fn faults_of_failures(store: &mut FileStore<HostRuntime>) -> Result<u64, Fail> {
+    let f = file(0)?;
+    if store.read(f, 0, &mut [0; 2]).is_ok() || store.len(f).is_ok() || store.sync(f).is_ok() {
+        return Err("a call that went well".into());
+    }
+    Ok(store.faults().count())
+}
+
+fn is_busy(rt: &HostRuntime) -> Result<bool, Fail> {
+    let second = FileStore::open(rt.clone()?, "fs_lock");
+    Ok(matches!(second, Err(TakeError::Busy)))
 }
 
 #[test]
@@ -96,12 +152,8 @@ fn a_store_is_refused_where_it_is_in_use_or_failed(rt: HostRuntime) -> Result<()
     let _ = fs::remove_dir_all(&rt, "fs_lock");
     let mut store = FileStore::open(rt.clone()?, "fs_lock")?;
     put(&mut store, 0, 7)?;
-    let second = FileStore::open(rt.clone()?, "fs_lock");
-    assert!(rt; matches!(second, Err(TakeError::Busy)));
-    let f = FileNo::new(0).ok_or("a file")?;
-    assert!(rt; store.read(f, 0, &mut [0; 2]).is_err());
-    assert!(rt; store.len(f).is_err() && store.sync(f).is_err());
-    assert_eq!(rt; store.faults().count(), 3);
+    assert!(rt; is_busy(&rt)?);
+    assert_eq!(rt; faults_of_failures(&mut store)?, 3);
     drop(store);
     let mut store = FileStore::open(rt.clone()?, "fs_lock")?;
     assert_eq!(rt; first(&mut store, 0)?, 7);

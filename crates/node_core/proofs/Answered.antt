@@ -21,6 +21,10 @@ pub ok_both : (r : Told) (P : Outputs → Type 0) (Q S : Type 0) (X : Outputs �
 ok_both (Ok o) P Q S X to p q s = to o p q s
 ok_both (Err e) P Q S X to p q s = tt
 
+pub ok_more : (r : Told) (Q X : Type 0) → (Q → X) → OnOk r Q → OnOk r X
+ok_more (Ok o) Q X to q = to q
+ok_more (Err e) Q X to q = tt
+
 pub ok_or : (r : Told) (P Q X : Type 0) → (P → X) → (Q → X) → OnOk r P → OnErr r Q → X
 ok_or (Ok o) P Q X ok err p q = ok p
 ok_or (Err e) P Q X ok err p q = err q

@@ -8,21 +8,20 @@ use Rattle.node_steps.specs.Steps.{risen_time, end_of_time, started_by}
 use Rattle.replica.specs.declared.kept.Kept.{Kept}
 use Rattle.replica.specs.Kept.{IsKeptOf}
 use Rattle.cs_base.specs.declared.ids.ReqId.{ReqId}
-use Rattle.node_core.specs.declared.memory.Begun.{Begun}
 use Rattle.node_core.specs.declared.memory.Made.{Made}
 use Rattle.node_core.specs.declared.memory.Memory.{Memory}
 use Rattle.node_core.specs.declared.outcome.Lost.{Lost}
 use Rattle.node_core.specs.declared.outcome.StepError.TheVariants.{Failed}
 use Rattle.node_core.specs.declared.work.Work.{Work}
-use Rattle.node_core.specs.Memory.{AreOutputsOf, HoldsCore, IsBegun, IsLost, core_behind, core_of, entry_made}
+use Rattle.node_core.specs.Memory.{AreOutputsOf, Begun, HoldsCore, IsBegun, IsLost, core_behind, core_of, entry_made}
 use Rattle.node_core.specs.Moving.{IsAbout, IsNewTo}
-use Rattle.node_core.specs.Nodes.{Core, Steps}
+use Rattle.node_core.specs.Nodes.{Core, HasRoom, Steps, WouldKeep}
 use Rattle.node_core.specs.Opening.{AreOrdered}
 use Rattle.node_core.specs.Working.{IsSound}
-use Rattle.node_core.proofs.Answered.{NotFailed, Told, ok_both, ok_or, one_lost}
+use Rattle.node_core.proofs.Answered.{NotFailed, Told, ok_both, ok_more, ok_or, one_lost}
 use Rattle.node_core.proofs.Entry.{kept_after}
 use Rattle.node_core.proofs.Requests.{held_back, held_behind, held_new}
-use Rattle.node_core.proofs.Stepping.{IsReady, rises, stepped}
+use Rattle.node_core.proofs.Stepping.{IsReady, rises, stepped, would_keep}
 
 -- ---- a step begins
 
@@ -52,6 +51,13 @@ steps_kept r m m' d d1 d' e y honest ready same outputs commits behind =
     ok_both r (AreOutputsOf y) (honest → Commits (entry_made m y.work) d1 d') (core_of m' ≡ core_behind m y.work) (λ o. honest → Steps (core_of m) d e o (core_of m') d')
     (λ o are makes is h. stepped m d e y o (core_of m') d' (ready h) are is (subst (λ (x : Durable). Commits (entry_made m y.work) x d') (same h) (makes h)))
     outputs commits behind
+
+pub room_kept : (r : Told) (m : Memory) (d d1 : Durable) (n n1 : ℕ) (e : Event) (y : Made) (honest : Type 0) → (honest → IsReady m d e y) → (honest → d1 ≡ d) → n1 ≡ n → OnOk r (honest → HasRoom n1 d1 (entry_made m y.work))
+    → OnOk r (honest → WouldKeep (core_of m) d e (HasRoom n d))
+room_kept r m d d1 n n1 e y honest ready same log room =
+    ok_more r (honest → HasRoom n1 d1 (entry_made m y.work)) (honest → WouldKeep (core_of m) d e (HasRoom n d))
+    (λ has h. would_keep m d e y (HasRoom n d) (ready h) (subst (λ (k : ℕ). HasRoom k d (entry_made m y.work)) log (subst (λ (x : Durable). HasRoom n1 x (entry_made m y.work)) (same h) (has h))))
+    room
 
 pub held_kept : (r : Told) (m m' : Memory) (w : Work) → HoldsCore m.base m.time → m.time ≤ w.time → IsSound m.base w → AreOrdered m'.base → OnOk r (core_of m' ≡ core_behind m w) → OnErr r (core_of m' ≡ core_of m) → HoldsCore m'.base m'.time
 held_kept r m m' w held later sound ordered behind back =

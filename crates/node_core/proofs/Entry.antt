@@ -21,7 +21,7 @@ use Rattle.replica.specs.Kept.{ArriveAllAt, ArrivesAt, IsKeptAfter, IsKeptOf, Is
 use Rattle.replica.specs.Finding.{AlwaysLeaves, IsSafe}
 use Rattle.replica.specs.Lengths.{IsFirstTooLarge}
 use Rattle.replica.proofs.Fronts.{leaves_more, leaves_still}
-use Rattle.node_core.specs.Nodes.{OverflowsLog}
+use Rattle.node_core.specs.Nodes.{HasRoom, OverflowsLog}
 use Rattle.node_core.specs.Working.{IsDataAt}
 
 -- ---- changes, and then a ceiling
@@ -181,6 +181,9 @@ large_as xs ys d p is h = subst (λ (zs : List LogItem). IsFirstTooLarge zs d p)
 
 pub overflow_as : (n : ℕ) (d : Durable) (xs ys : List LogItem) → xs ≡ ys → OverflowsLog n d xs → OverflowsLog n d ys
 overflow_as n d xs ys is h = subst (λ (zs : List LogItem). OverflowsLog n d zs) is h
+
+pub room_as : (n : ℕ) (d : Durable) (xs ys : List LogItem) → xs ≡ ys → HasRoom n d xs → HasRoom n d ys
+room_as n d xs ys is h = subst (λ (zs : List LogItem). HasRoom n d zs) is h
 
 -- where nothing was called
 pub still_with : (st : (ℕ → List ℕ) → Durable → Type 0) (xs : List LogItem) (d : Durable) (disk : Disk) → IsSafe st d disk → AlwaysLeaves st (IsWithOrWithout xs d) disk disk

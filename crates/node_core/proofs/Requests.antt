@@ -12,38 +12,37 @@ use Rattle.node_steps.specs.State.{OpenWrite, OpenRead}
 use Rattle.replica.specs.declared.kept.Kept.{Kept}
 use Rattle.node_core.specs.declared.base.Base.{Base}
 use Rattle.node_core.specs.declared.memory.Memory.{Memory}
-use Rattle.node_core.specs.declared.opening.Opened.{Opened}
-use Rattle.node_core.specs.declared.opening.Touched.{Touched}
+use Rattle.node_core.specs.declared.opening.Began.{Began}
 use Rattle.node_core.specs.declared.slot.Slot.{Slot}
 use Rattle.node_core.specs.declared.slot.Slot.TheVariants.{Untouched, New, Old, Gone}
 use Rattle.node_core.specs.declared.work.Work.{Work}
 use Rattle.node_core.specs.Memory.{HoldsCore, core_behind, core_of}
 use Rattle.node_core.specs.Moving.{BeganBefore, IsNewTo}
 use Rattle.node_core.specs.Nodes.{Core}
-use Rattle.node_core.specs.Opening.{AreOrdered, BeganBy, IsOpenedAs, IsRestOf, Known, known_of, known_with, known_without, with_begun, with_rest, without_begun}
+use Rattle.node_core.specs.Opening.{AreOrdered, BeganBy, IsBegunAs, Known, LeavesRest, known_of, known_with, known_without, with_begun, with_rest, without_begun}
 use Rattle.node_core.specs.Slots.{IsNew}
 use Rattle.node_core.specs.Working.{IsEarly, IsSlotOf, down_with, with_slot}
 use Rattle.node_core.proofs.Slots.{remove_inserted, request_itself, some_not_none}
 
 -- ---- what began, and the rest
 
-put_slot : {A : Type 0} (id : ReqId) (slot : Slot A) (t : Touched A) (xs : List (ReqId × A)) → IsRestOf slot t → with_rest id t.rest (with_begun id slot xs) ≡ with_slot id slot xs
-put_slot {A} id Untouched t xs h = ap (λ (s : Slot A). with_rest id s xs) h.1
-put_slot {A} id (New a) t xs h = ap (λ (s : Slot A). with_rest id s (insert_entry request_cmp xs id a)) h.1
-put_slot {A} id (Old a) t xs h = ap (λ (s : Slot A). with_rest id s xs) h.1
-put_slot {A} id Gone t xs h = ap (λ (s : Slot A). with_rest id s xs) h.1
+put_slot : {A : Type 0} (id : ReqId) (slot : Slot A) (began : Bool) (rest : Slot A) (xs : List (ReqId × A)) → LeavesRest slot began rest → with_rest id rest (with_begun id slot xs) ≡ with_slot id slot xs
+put_slot {A} id Untouched began rest xs h = ap (λ (s : Slot A). with_rest id s xs) h.1
+put_slot {A} id (New a) began rest xs h = ap (λ (s : Slot A). with_rest id s (insert_entry request_cmp xs id a)) h.1
+put_slot {A} id (Old a) began rest xs h = ap (λ (s : Slot A). with_rest id s xs) h.1
+put_slot {A} id Gone began rest xs h = ap (λ (s : Slot A). with_rest id s xs) h.1
 
-pub close_slot : {A : Type 0} (id : ReqId) (slot : Slot A) (t : Touched A) (xs : List (ReqId × A)) → IsSlotOf id xs slot → IsRestOf slot t → without_begun id t.began (with_begun id slot xs) ≡ xs
-close_slot {A} id Untouched t xs is h = ap (λ (b : Bool). without_begun id b xs) h.0
-close_slot {A} id (New a) t xs is h = ap (λ (b : Bool). without_begun id b (insert_entry request_cmp xs id a)) h.0 ∙ remove_inserted request_cmp xs id a (request_itself id) is
-close_slot {A} id (Old a) t xs is h = ap (λ (b : Bool). without_begun id b xs) h.0
-close_slot {A} id Gone t xs is h = ap (λ (b : Bool). without_begun id b xs) h.0
+pub close_slot : {A : Type 0} (id : ReqId) (slot : Slot A) (began : Bool) (rest : Slot A) (xs : List (ReqId × A)) → IsSlotOf id xs slot → LeavesRest slot began rest → without_begun id began (with_begun id slot xs) ≡ xs
+close_slot {A} id Untouched began rest xs is h = ap (λ (b : Bool). without_begun id b xs) h.0
+close_slot {A} id (New a) began rest xs is h = ap (λ (b : Bool). without_begun id b (insert_entry request_cmp xs id a)) h.0 ∙ remove_inserted request_cmp xs id a (request_itself id) is
+close_slot {A} id (Old a) began rest xs is h = ap (λ (b : Bool). without_begun id b xs) h.0
+close_slot {A} id Gone began rest xs is h = ap (λ (b : Bool). without_begun id b xs) h.0
 
-abbrev putting : ReqId → Opened → Option (List ℕ) → Known → Known
-putting id o marked k = record k { down = down_with marked k.down; writes = with_rest id o.write.rest k.writes; reads = with_rest id o.read.rest k.reads }
+abbrev putting : ReqId → Slot OpenWrite → Slot OpenRead → Option (List ℕ) → Known → Known
+putting id w r marked k = record k { down = down_with marked k.down; writes = with_rest id w k.writes; reads = with_rest id r k.reads }
 
-abbrev closing : ReqId → Opened → Known → Known
-closing id o k = record k { writes = without_begun id o.write.began k.writes; reads = without_begun id o.read.began k.reads }
+abbrev closing : ReqId → Began → Known → Known
+closing id began k = record k { writes = without_begun id began.write k.writes; reads = without_begun id began.read k.reads }
 
 abbrev with_both : Known → List (ReqId × OpenWrite) → List (ReqId × OpenRead) → Known
 with_both k writes reads = record k { writes = writes; reads = reads }
@@ -51,20 +50,20 @@ with_both k writes reads = record k { writes = writes; reads = reads }
 pub known_undone : (b : Base) (ws : List (ReqId × OpenWrite)) (rs : List (ReqId × OpenRead)) → ws ≡ b.writes.entries → rs ≡ b.reads.entries → with_both (known_of b) ws rs ≡ known_of b
 known_undone b ws rs write read = ap (λ (xs : List (ReqId × OpenWrite)). with_both (known_of b) xs rs) write ∙ ap (λ (xs : List (ReqId × OpenRead)). with_both (known_of b) b.writes.entries xs) read
 
-pub put_known : (id : ReqId) (write : Slot OpenWrite) (read : Slot OpenRead) (marked : Option (List ℕ)) (b b1 b2 : Base) (o : Opened) → IsOpenedAs id write read b o b1 → known_of b2 ≡ known_with id o marked b1
+pub put_known : (id : ReqId) (write : Slot OpenWrite) (read : Slot OpenRead) (marked : Option (List ℕ)) (b b1 b2 : Base) (began : Began) (write' : Slot OpenWrite) (read' : Slot OpenRead) → IsBegunAs id write read b began write' read' b1 → known_of b2 ≡ known_with id write' read' marked b1
     → known_of b2 ≡ record (known_of b) { down = down_with marked b.down; writes = with_slot id write b.writes.entries; reads = with_slot id read b.reads.entries }
-put_known id write read marked b b1 b2 o opened is =
+put_known id write read marked b b1 b2 began write' read' opened is =
     let k : Known = record (known_of b) { down = down_with marked b.down } in
-    is ∙ ap (putting id o marked) opened.known
-    ∙ ap (λ (ws : List (ReqId × OpenWrite)). with_both k ws (with_rest id o.read.rest (with_begun id read b.reads.entries))) (put_slot id write o.write b.writes.entries opened.write)
-    ∙ ap (λ (rs : List (ReqId × OpenRead)). with_both k (with_slot id write b.writes.entries) rs) (put_slot id read o.read b.reads.entries opened.read)
+    is ∙ ap (putting id write' read' marked) opened.known
+    ∙ ap (λ (ws : List (ReqId × OpenWrite)). with_both k ws (with_rest id read' (with_begun id read b.reads.entries))) (put_slot id write began.write write' b.writes.entries opened.write)
+    ∙ ap (λ (rs : List (ReqId × OpenRead)). with_both k (with_slot id write b.writes.entries) rs) (put_slot id read began.read read' b.reads.entries opened.read)
 
-pub close_known : (id : ReqId) (write : Slot OpenWrite) (read : Slot OpenRead) (b b1 b2 : Base) (o : Opened) → IsSlotOf id b.writes.entries write → IsSlotOf id b.reads.entries read → IsOpenedAs id write read b o b1 → known_of b2 ≡ known_without id o b1 → known_of b2 ≡ known_of b
-close_known id write read b b1 b2 o at_write at_read opened is =
+pub close_known : (id : ReqId) (write : Slot OpenWrite) (read : Slot OpenRead) (b b1 b2 : Base) (began : Began) (write' : Slot OpenWrite) (read' : Slot OpenRead) → IsSlotOf id b.writes.entries write → IsSlotOf id b.reads.entries read → IsBegunAs id write read b began write' read' b1 → known_of b2 ≡ known_without id began b1 → known_of b2 ≡ known_of b
+close_known id write read b b1 b2 began write' read' at_write at_read opened is =
     let k : Known = known_of b in
-    is ∙ ap (closing id o) opened.known
-    ∙ ap (λ (ws : List (ReqId × OpenWrite)). with_both k ws (without_begun id o.read.began (with_begun id read b.reads.entries))) (close_slot id write o.write b.writes.entries at_write opened.write)
-    ∙ ap (λ (rs : List (ReqId × OpenRead)). with_both k b.writes.entries rs) (close_slot id read o.read b.reads.entries at_read opened.read)
+    is ∙ ap (closing id began) opened.known
+    ∙ ap (λ (ws : List (ReqId × OpenWrite)). with_both k ws (without_begun id began.read (with_begun id read b.reads.entries))) (close_slot id write began.write write' b.writes.entries at_write opened.write)
+    ∙ ap (λ (rs : List (ReqId × OpenRead)). with_both k b.writes.entries rs) (close_slot id read began.read read' b.reads.entries at_read opened.read)
 
 abbrev core_with : Known → ℕ → Kept → Core
 core_with k time kept = record { setting = k.setting; me = k.me; runs = true; time = time; risen = time; kept = kept; down = k.down; writes = k.writes; reads = k.reads }

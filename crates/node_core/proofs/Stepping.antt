@@ -26,7 +26,6 @@ use Rattle.node_steps.proofs.Failing.{failed_stops}
 use Rattle.replica.specs.Finding.{AlwaysLeaves, IsSafe, StandFor}
 use Rattle.replica.specs.Kept.{IsKeptOf}
 use Rattle.replica.proofs.Fronts.{leaves_more, leaves_on, leaves_still, stand_more}
-use Rattle.node_core.specs.declared.memory.Begun.{Begun}
 use Rattle.node_core.specs.declared.memory.Made.{Made}
 use Rattle.node_core.specs.declared.memory.Memory.{Memory}
 use Rattle.node_core.specs.declared.outcome.Lost.{Lost}
@@ -34,7 +33,7 @@ use Rattle.node_core.specs.declared.slot.Slot.{Slot}
 use Rattle.node_core.specs.declared.slot.Slot.TheVariants.{Untouched}
 use Rattle.node_core.specs.declared.work.Work.{Work}
 use Rattle.node_core.specs.Asking.{IsFresh}
-use Rattle.node_core.specs.Memory.{AreOutputsOf, IsBegun, IsLost, TellsBy, core_behind, core_of, entry_made, is_flush, outputs_with}
+use Rattle.node_core.specs.Memory.{AreOutputsOf, Begun, IsBegun, IsLost, TellsBy, core_behind, core_of, entry_made, is_flush, outputs_with}
 use Rattle.node_core.specs.Moving.{CutsIn, HasCome, IsCut, IsWorkedOut}
 use Rattle.node_core.specs.Nodes.{Core, Halts, HasNoRoom, IsBeforeOrBehind, IsTooLarge, LeadsBy, OverflowsLog, Steps, WouldKeep, state_with}
 use Rattle.node_core.specs.Working.{IsSound, down_with, state_at, with_slot}

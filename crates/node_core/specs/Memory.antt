@@ -14,7 +14,6 @@ use Rattle.replica.specs.declared.error.RoomError.{RoomError}
 use Rattle.replica.specs.declared.error.RoomError.TheVariants as room_error
 use Rattle.node_core.specs.declared.base.Base.{Base}
 use Rattle.node_core.specs.declared.memory.Memory.{Memory}
-use Rattle.node_core.specs.declared.memory.Begun.{Begun}
 use Rattle.node_core.specs.declared.memory.Made.{Made}
 use Rattle.node_core.specs.declared.outcome.Lost.{Lost}
 use Rattle.node_core.specs.declared.outcome.StepError.{StepError}
@@ -54,6 +53,11 @@ is_flush (Deliver m) = false
 is_flush (Alive peer up) = false
 is_flush Flush = true
 is_flush Tick = false
+
+-- what of its event the node looks at, and what the step has made
+pub record Begun : Type 0 where
+  pub what : What
+  pub made : Made
 
 -- the node takes the event at this time, and has made nothing of it yet
 pub record IsBegun (m : Memory) (t : ℕ) (e : Event) (x : Begun) : Type 0 where

@@ -1,5 +1,5 @@
 -- A node as its contracts see it: what it has in memory, and what its replica keeps.
-use Rattle.std.specs.Prelude.{◌≡◌, ◌⊎◌, ◌<◌, ℕ, Bool, List}
+use Rattle.std.specs.Prelude.{◌≡◌, ◌⊎◌, ◌<◌, ℕ, Bool, List, []}
 use Rattle.cs_base.specs.declared.ids.ReqId.{ReqId}
 use Rattle.changes.specs.declared.Partition.{Partition}
 use Rattle.cs_store.specs.Disk.{Disk, IsImage}
@@ -74,6 +74,10 @@ has_items items = record { items = items }
 -- the log would pass its length by the entry, while no partition of it grows too large
 abbrev pub OverflowsLog : ℕ → Durable → List LogItem → Type 0
 OverflowsLog log_end d items = PassesLog log_end (has_items items) × AllStaySmall items items d
+
+-- an entry that keeps something fits: the log does not pass its length, and no partition grows too large
+abbrev pub HasRoom : ℕ → Durable → List LogItem → Type 0
+HasRoom log_end d items = (items ≡ [] → ⊥) → (PassesLog log_end (has_items items) → ⊥) × AllStaySmall items items d
 
 -- the node's time would pass its end, or its log its length
 abbrev pub HasNoRoom : Core → Durable → ℕ → Event → Type 0

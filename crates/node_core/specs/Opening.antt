@@ -8,8 +8,7 @@ use Rattle.cs_base.specs.Requests.{request_cmp}
 use Rattle.peer_messages.specs.declared.setting.Setting.{Setting}
 use Rattle.node_steps.specs.State.{OpenWrite, OpenRead}
 use Rattle.node_core.specs.declared.base.Base.{Base}
-use Rattle.node_core.specs.declared.opening.Opened.{Opened}
-use Rattle.node_core.specs.declared.opening.Touched.{Touched}
+use Rattle.node_core.specs.declared.opening.Began.{Began}
 use Rattle.node_core.specs.declared.slot.Slot.{Slot}
 use Rattle.node_core.specs.declared.slot.Slot.TheVariants.{Untouched, New, Old, Gone}
 use Rattle.node_core.specs.Working.{with_slot, down_with}
@@ -34,11 +33,12 @@ with_rest {A} id (New a) xs = xs
 with_rest {A} id (Old a) xs = with_slot id (Old a) xs
 with_rest {A} id Gone xs = with_slot id Gone xs
 
-abbrev pub IsRestOf : {A : Type 0} → Slot A → Touched A → Type 0
-IsRestOf {A} Untouched t = (t.began ≡ false) × (t.rest ≡ Untouched)
-IsRestOf {A} (New a) t = (t.began ≡ true) × (t.rest ≡ Untouched)
-IsRestOf {A} (Old a) t = (t.began ≡ false) × (t.rest ≡ Old a)
-IsRestOf {A} Gone t = (t.began ≡ false) × (t.rest ≡ Gone)
+-- whether it began one, and what is left in its slot when that is put in
+abbrev pub LeavesRest : {A : Type 0} → Slot A → Bool → Slot A → Type 0
+LeavesRest {A} Untouched began rest = (began ≡ false) × (rest ≡ Untouched)
+LeavesRest {A} (New a) began rest = (began ≡ true) × (rest ≡ Untouched)
+LeavesRest {A} (Old a) began rest = (began ≡ false) × (rest ≡ Old a)
+LeavesRest {A} Gone began rest = (began ≡ false) × (rest ≡ Gone)
 
 -- ---- of a node
 
@@ -57,20 +57,20 @@ pub record AreOrdered (b : Base) : Type 0 where
   pub writes : IsOrdered request_cmp b.writes
   pub reads : IsOrdered request_cmp b.reads
 
--- what the step began is put in
-pub record IsOpenedAs (id : ReqId) (w : Slot OpenWrite) (r : Slot OpenRead) (b : Base) (o : Opened) (b' : Base) : Type 0 where
+-- what the step began is put in, and the rest is left
+pub record IsBegunAs (id : ReqId) (w : Slot OpenWrite) (r : Slot OpenRead) (b : Base) (began : Began) (w' : Slot OpenWrite) (r' : Slot OpenRead) (b' : Base) : Type 0 where
   pub known : known_of b' ≡ record (known_of b) { writes = with_begun id w b.writes.entries; reads = with_begun id r b.reads.entries }
-  pub write : IsRestOf w o.write
-  pub read : IsRestOf r o.read
+  pub write : LeavesRest w began.write w'
+  pub read : LeavesRest r began.read r'
 
 -- the rest is put in, and the nodes that are taken for dead
-abbrev pub known_with : ReqId → Opened → Option (List ℕ) → Base → Known
-known_with id o marked b =
-    record (known_of b) { down = down_with marked b.down; writes = with_rest id o.write.rest b.writes.entries; reads = with_rest id o.read.rest b.reads.entries }
+abbrev pub known_with : ReqId → Slot OpenWrite → Slot OpenRead → Option (List ℕ) → Base → Known
+known_with id w r marked b =
+    record (known_of b) { down = down_with marked b.down; writes = with_rest id w b.writes.entries; reads = with_rest id r b.reads.entries }
 
 -- what the step began is taken out again
-abbrev pub known_without : ReqId → Opened → Base → Known
-known_without id o b = record (known_of b) { writes = without_begun id o.write.began b.writes.entries; reads = without_begun id o.read.began b.reads.entries }
+abbrev pub known_without : ReqId → Began → Base → Known
+known_without id began b = record (known_of b) { writes = without_begun id began.write b.writes.entries; reads = without_begun id began.read b.reads.entries }
 
 -- each of the open requests began by this time
 abbrev pub BeganBy : {A : Type 0} → ℕ → List (ReqId × A) → Type 0

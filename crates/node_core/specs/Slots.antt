@@ -11,6 +11,20 @@ IsFound {A} (New a) found slot = (found ≡ Some (record { now = a; is_new = tru
 IsFound {A} (Old a) found slot = (found ≡ Some (record { now = a; is_new = false })) × (slot ≡ Untouched)
 IsFound {A} Gone found slot = (found ≡ None) × (slot ≡ Gone)
 
+-- what began in the step is taken out
+abbrev pub TakesNew : {A : Type 0} → Slot A → Option A → Slot A → Type 0
+TakesNew {A} Untouched taken slot = (taken ≡ None) × (slot ≡ Untouched)
+TakesNew {A} (New a) taken slot = (taken ≡ Some a) × (slot ≡ Untouched)
+TakesNew {A} (Old a) taken slot = (taken ≡ None) × (slot ≡ Old a)
+TakesNew {A} Gone taken slot = (taken ≡ None) × (slot ≡ Gone)
+
+-- what moved in it is
+abbrev pub TakesOld : {A : Type 0} → Slot A → Option A → Slot A → Type 0
+TakesOld {A} Untouched taken slot = (taken ≡ None) × (slot ≡ Untouched)
+TakesOld {A} (New a) taken slot = (taken ≡ None) × (slot ≡ New a)
+TakesOld {A} (Old a) taken slot = (taken ≡ Some a) × (slot ≡ Untouched)
+TakesOld {A} Gone taken slot = (taken ≡ None) × (slot ≡ Gone)
+
 -- the request began in the step
 abbrev pub IsNew : {A : Type 0} → Slot A → Type 0
 IsNew {A} Untouched = ⊥

@@ -297,12 +297,14 @@ impl Work {
         requires part { HasPart body part }
         ensures { IfOk result (λ given. TakesBody base.now self.old asker body part given self.new) }
     {
-        match (body, part) {
-            (Body::Write(mutation), _) => self.hear_write(alloc, asker, mutation),
-            (Body::WriteAck, _) => self.hear_ack(base, alloc, asker),
-            (Body::Read(_), Some(part)) => reply(alloc, asker, Body::ReadReply(part)),
-            (Body::Read(_), None) => unreachable!(),
-            (Body::ReadReply(content), _) => self.hear_reply(base, alloc, asker, content),
+        match body {
+            Body::Write(mutation) => self.hear_write(alloc, asker, mutation),
+            Body::WriteAck => self.hear_ack(base, alloc, asker),
+            Body::Read(_) => match part {
+                Some(part) => reply(alloc, asker, Body::ReadReply(part)),
+                None => unreachable!(),
+            },
+            Body::ReadReply(content) => self.hear_reply(base, alloc, asker, content),
         }
     }
 }

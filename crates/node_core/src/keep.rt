@@ -9,7 +9,7 @@ ghost use Rattle.replica.specs.Kept.{ArriveAllAt, ArriveAtOnce, IsKeptAfter, Pur
 ghost use Rattle.replica.specs.Lengths.{IsFirstTooLarge};
 ghost use Rattle.replica.specs.declared.error.CallError.TheVariants as call_error;
 ghost use Rattle.replica.specs.declared.error.RoomError.TheVariants as room_error;
-ghost use Rattle.node_core.specs.Nodes.{OverflowsLog};
+ghost use Rattle.node_core.specs.Nodes.{HasRoom, OverflowsLog};
 ghost use Rattle.node_core.specs.Memory.{TellsBy};
 
 use cs_base::Micros;
@@ -43,6 +43,7 @@ pub(crate) fn keep<R: Replica>(
     ensures whole { (IsErrOf result room_error.Failed → ⊥) → R.is_whole replica.new }
     ensures same { OnErr result ((IsErrOf result room_error.Failed → ⊥) → R.Disk.is_honest → R.durable replica.new ≡ R.durable replica.old) }
     ensures too_large { (p : _) → IsErrOf result (room_error.TooLarge p) → R.Disk.is_honest → IsFirstTooLarge entry.now.items (R.durable replica.old) p }
+    ensures room { OnOk result (R.Disk.is_honest → HasRoom (R.log_end replica.old) (R.durable replica.old) entry.now.items) }
     ensures no_room { IsErrOf result room_error.NoRoom → R.Disk.is_honest → OverflowsLog (R.log_end replica.old) (R.durable replica.old) entry.now.items }
     ensures failed { IsErrOf result room_error.Failed → HasRisen (R.Disk.faults (R.disk replica.old)) (R.Disk.faults (R.disk replica.new)) }
     ensures faults { R.Disk.faults (R.disk replica.old) ≤ R.Disk.faults (R.disk replica.new) }
@@ -81,6 +82,7 @@ pub(crate) fn keep_and_flush<R: Replica>(
     ensures whole { (IsErrOf result room_error.Failed → ⊥) → R.is_whole replica.new }
     ensures same { OnErr result ((IsErrOf result room_error.Failed → ⊥) → R.Disk.is_honest → R.durable replica.new ≡ R.durable replica.old) }
     ensures too_large { (p : _) → IsErrOf result (room_error.TooLarge p) → R.Disk.is_honest → IsFirstTooLarge entry.now.items (R.durable replica.old) p }
+    ensures room { OnOk result (R.Disk.is_honest → HasRoom (R.log_end replica.old) (R.durable replica.old) entry.now.items) }
     ensures no_room { IsErrOf result room_error.NoRoom → R.Disk.is_honest → OverflowsLog (R.log_end replica.old) (R.durable replica.old) entry.now.items }
     ensures failed { IsErrOf result room_error.Failed → HasRisen (R.Disk.faults (R.disk replica.old)) (R.Disk.faults (R.disk replica.new)) }
     ensures faults { R.Disk.faults (R.disk replica.old) ≤ R.Disk.faults (R.disk replica.new) }
@@ -117,6 +119,7 @@ fn write<R: Replica>(
     ensures whole { (IsErrOf result room_error.Failed → ⊥) → R.is_whole replica.new }
     ensures same { OnErr result ((IsErrOf result room_error.Failed → ⊥) → R.Disk.is_honest → R.durable replica.new ≡ R.durable replica.old) }
     ensures too_large { (p : _) → IsErrOf result (room_error.TooLarge p) → R.Disk.is_honest → IsFirstTooLarge entry.now.items (R.durable replica.old) p }
+    ensures room { OnOk result (R.Disk.is_honest → HasRoom (R.log_end replica.old) (R.durable replica.old) entry.now.items) }
     ensures no_room { IsErrOf result room_error.NoRoom → R.Disk.is_honest → OverflowsLog (R.log_end replica.old) (R.durable replica.old) entry.now.items }
     ensures failed { IsErrOf result room_error.Failed → HasRisen (R.Disk.faults (R.disk replica.old)) (R.Disk.faults (R.disk replica.new)) }
     ensures faults { R.Disk.faults (R.disk replica.old) ≤ R.Disk.faults (R.disk replica.new) }
@@ -156,6 +159,7 @@ pub(crate) fn commit<R: Replica>(
     ensures whole { (IsErrOf result room_error.Failed → ⊥) → R.is_whole replica.new }
     ensures same { OnErr result ((IsErrOf result room_error.Failed → ⊥) → R.Disk.is_honest → R.durable replica.new ≡ R.durable replica.old) }
     ensures too_large { (p : _) → IsErrOf result (room_error.TooLarge p) → R.Disk.is_honest → IsFirstTooLarge entry.now.items (R.durable replica.old) p }
+    ensures room { OnOk result (R.Disk.is_honest → HasRoom (R.log_end replica.old) (R.durable replica.old) entry.now.items) }
     ensures no_room { IsErrOf result room_error.NoRoom → R.Disk.is_honest → OverflowsLog (R.log_end replica.old) (R.durable replica.old) entry.now.items }
     ensures failed { IsErrOf result room_error.Failed → HasRisen (R.Disk.faults (R.disk replica.old)) (R.Disk.faults (R.disk replica.new)) }
     ensures faults { R.Disk.faults (R.disk replica.old) ≤ R.Disk.faults (R.disk replica.new) }

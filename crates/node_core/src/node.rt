@@ -10,7 +10,7 @@ ghost use Rattle.node_steps.specs.Stops.{remains};
 ghost use Rattle.replica.specs.Finding.{AlwaysLeaves};
 ghost use Rattle.replica.specs.Kept.{IsKeptOf};
 ghost use Rattle.replica.specs.declared.error.LoadError.TheVariants as load_error;
-ghost use Rattle.node_core.specs.Nodes.{state_with, Steps, HasNoRoom, IsTooLarge, Halts, IsBeforeOrBehind};
+ghost use Rattle.node_core.specs.Nodes.{state_with, Steps, WouldKeep, HasRoom, HasNoRoom, IsTooLarge, Halts, IsBeforeOrBehind};
 ghost use Rattle.node_core.specs.Memory.{has_stopped as has_stopped_of};
 ghost use Rattle.node_core.specs.declared.outcome.StepError.TheVariants as step_error;
 
@@ -94,6 +94,7 @@ impl NodeCore {
         ensures whole { self.new.runs ≡ true → R.is_whole replica.new }
         ensures tied { self.new.runs ≡ true → R.Disk.is_honest → IsKeptOf (R.durable replica.new) self.new.kept }
         ensures late { OnOk result (risen_time self.old.time event ≤ end_of_time) }
+        ensures room { OnOk result (R.Disk.is_honest → WouldKeep self.old (R.durable replica.old) event (HasRoom (R.log_end replica.old) (R.durable replica.old))) }
         ensures no_room { IsErrOf result step_error.NoRoom → R.Disk.is_honest → HasNoRoom self.old (R.durable replica.old) (R.log_end replica.old) event }
         ensures too_large { (p : _) → IsErrOf result (step_error.TooLarge p) → R.Disk.is_honest → IsTooLarge self.old (R.durable replica.old) event p }
         ensures same { OnErr result (self.new.runs ≡ true → (self.new ≡ self.old) × (R.Disk.is_honest → R.durable replica.new ≡ R.durable replica.old)) }
@@ -164,6 +165,7 @@ impl<R: Replica> Node<R> {
         ensures whole { self.new.core.runs ≡ true → R.is_whole self.new.replica }
         ensures tied { self.new.core.runs ≡ true → R.Disk.is_honest → IsKeptOf (R.durable self.new.replica) self.new.core.kept }
         ensures late { OnOk result (risen_time self.old.core.time event ≤ end_of_time) }
+        ensures room { OnOk result (R.Disk.is_honest → WouldKeep self.old.core (R.durable self.old.replica) event (HasRoom (R.log_end self.old.replica) (R.durable self.old.replica))) }
         ensures no_room { IsErrOf result step_error.NoRoom → R.Disk.is_honest → HasNoRoom self.old.core (R.durable self.old.replica) (R.log_end self.old.replica) event }
         ensures too_large { (p : _) → IsErrOf result (step_error.TooLarge p) → R.Disk.is_honest → IsTooLarge self.old.core (R.durable self.old.replica) event p }
         ensures same { OnErr result (self.new.core.runs ≡ true → (self.new.core ≡ self.old.core) × (R.Disk.is_honest → R.durable self.new.replica ≡ R.durable self.old.replica)) }

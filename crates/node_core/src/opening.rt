@@ -6,7 +6,7 @@ ghost use Rattle.std.specs.BTreeMap.{IsOrdered};
 ghost use Rattle.cs_base.specs.Requests.{request_cmp};
 ghost use Rattle.node_core.specs.Working.{IsSlotOf};
 ghost use Rattle.node_core.specs.declared.slot.Slot.TheVariants.{Old};
-ghost use Rattle.node_core.specs.Opening.{with_begun, without_begun, with_rest, IsRestOf, IsOpenedAs, AreOrdered, known_of, known_with, known_without};
+ghost use Rattle.node_core.specs.Opening.{with_begun, without_begun, with_rest, LeavesRest, IsBegunAs, AreOrdered, known_of, known_with, known_without};
 
 use crate::base::Base;
 use crate::slot::Slot;
@@ -17,41 +17,31 @@ use std::alloc::AllocError;
 use std::collections::BTreeMap;
 use write_coord::WriteCoord;
 
-/// Whether the step began a request, and what it made of one that was open before.
-#[derive(Drop)]
-pub(crate) struct Touched<W: Drop> {
-    pub began: bool,
-    pub rest: Slot<W>,
+/// Whether the step began a write, and whether it began a read.
+#[derive(Clone, Copy)]
+pub(crate) struct Began {
+    pub write: bool,
+    pub read: bool,
 }
 
-/// The same of a write and of a read.
-#[derive(Drop)]
-pub(crate) struct Opened {
-    pub write: Touched<WriteCoord>,
-    pub read: Touched<ReadCoord>,
-}
-
-/// Puts in a request that the step began. An error leaves all as it was.
+/// Puts in a request that the step began, and tells whether it did. An error leaves the requests as they were.
 fn begin<W: Drop>(
     requests: &mut BTreeMap<ReqId, W>,
     request: ReqId,
-    slot: Slot<W>,
-) -> Result<Touched<W>, AllocError>
+    slot: &mut Slot<W>,
+) -> Result<bool, AllocError>
     requires ordered { IsOrdered request_cmp requests.old }
-    ensures entries { OnOk result (requests.new.entries ≡ with_begun request slot requests.old.entries) }
-    ensures rest { IfOk result (λ touched. IsRestOf slot touched) }
+    ensures entries { OnOk result (requests.new.entries ≡ with_begun request slot.old requests.old.entries) }
+    ensures rest { IfOk result (λ began. LeavesRest slot.old began slot.new) }
     ensures err { OnErr result (requests.new.entries ≡ requests.old.entries) }
     ensures ordered { IsOrdered request_cmp requests.new }
 {
-    match slot {
-        Slot::New(now) => {
+    match slot.take_new() {
+        Some(now) => {
             requests.insert(request, now)?;
-            Ok(Touched {
-                began: true,
-                rest: Slot::Untouched,
-            })
+            Ok(true)
         }
-        rest => Ok(Touched { began: false, rest }),
+        None => Ok(false),
     }
 }
 
@@ -77,64 +67,70 @@ fn replace<W: Drop>(requests: &mut BTreeMap<ReqId, W>, request: &ReqId, now: W)
 }
 
 /// Puts in what the step made of a request that was open before. It takes no memory.
-fn finish<W: Drop>(requests: &mut BTreeMap<ReqId, W>, request: &ReqId, rest: Slot<W>)
+fn finish<W: Drop>(requests: &mut BTreeMap<ReqId, W>, request: &ReqId, rest: &mut Slot<W>)
     requires ordered { IsOrdered request_cmp requests.old }
-    ensures entries { requests.new.entries ≡ with_rest request.now rest requests.old.entries }
+    ensures entries { requests.new.entries ≡ with_rest request.now rest.old requests.old.entries }
     ensures ordered { IsOrdered request_cmp requests.new }
 {
-    match rest {
-        Slot::Old(now) => replace(requests, request, now),
-        Slot::Gone => {
-            requests.remove(request);
-        }
-        Slot::New(_) | Slot::Untouched => {}
+    if rest.is_gone() {
+        requests.remove(request);
+        return;
+    }
+    if let Some(now) = rest.take_old() {
+        replace(requests, request, now);
     }
 }
 
 impl Base {
-    /// Puts in what the step began. An error leaves all as it was.
+    /// Puts in what the step began, and leaves the rest where it is. An error leaves the node as it was.
     pub(crate) fn put_begun(
         &mut self,
         request: ReqId,
-        write: Slot<WriteCoord>,
-        read: Slot<ReadCoord>,
-    ) -> Result<Opened, AllocError>
+        write: &mut Slot<WriteCoord>,
+        read: &mut Slot<ReadCoord>,
+    ) -> Result<Began, AllocError>
         requires ordered { AreOrdered self.old }
-        requires write { IsSlotOf request self.old.writes.entries write }
-        requires read { IsSlotOf request self.old.reads.entries read }
-        ensures ok { IfOk result (λ opened. IsOpenedAs request write read self.old opened self.new) }
+        requires write { IsSlotOf request self.old.writes.entries write.old }
+        requires read { IsSlotOf request self.old.reads.entries read.old }
+        ensures ok { IfOk result (λ began. IsBegunAs request write.old read.old self.old began write.new read.new self.new) }
         ensures err { OnErr result (known_of self.new ≡ known_of self.old) }
         ensures ordered { AreOrdered self.new }
     {
-        let write = begin(&mut self.writes, request, write)?;
+        let began = begin(&mut self.writes, request, write)?;
         match begin(&mut self.reads, request, read) {
-            Ok(read) => Ok(Opened { write, read }),
+            Ok(read) => Ok(Began { write: began, read }),
             Err(error) => {
-                undo(&mut self.writes, &request, write.began);
+                undo(&mut self.writes, &request, began);
                 Err(error)
             }
         }
     }
 
     /// Takes out again what the step began.
-    pub(crate) fn take_begun(&mut self, request: &ReqId, opened: &Opened)
+    pub(crate) fn take_begun(&mut self, request: &ReqId, began: Began)
         requires ordered { AreOrdered self.old }
-        ensures known { known_of self.new ≡ known_without request.now opened.now self.old }
+        ensures known { known_of self.new ≡ known_without request.now began self.old }
         ensures ordered { AreOrdered self.new }
     {
-        undo(&mut self.writes, request, opened.write.began);
-        undo(&mut self.reads, request, opened.read.began);
+        undo(&mut self.writes, request, began.write);
+        undo(&mut self.reads, request, began.read);
     }
 
     /// Puts in the rest of what the step made, and whom it marked.
-    pub(crate) fn put_rest(&mut self, request: &ReqId, opened: Opened, marked: Option<NodeIds>)
+    pub(crate) fn put_rest(
+        &mut self,
+        request: &ReqId,
+        write: &mut Slot<WriteCoord>,
+        read: &mut Slot<ReadCoord>,
+        marked: &mut Option<NodeIds>,
+    )
         requires ordered { AreOrdered self.old }
-        ensures known { known_of self.new ≡ known_with request.now opened marked self.old }
+        ensures known { known_of self.new ≡ known_with request.now write.old read.old marked.old self.old }
         ensures ordered { AreOrdered self.new }
     {
-        finish(&mut self.writes, request, opened.write.rest);
-        finish(&mut self.reads, request, opened.read.rest);
-        if let Some(down) = marked {
+        finish(&mut self.writes, request, write);
+        finish(&mut self.reads, request, read);
+        if let Some(down) = marked.take() {
             self.down = down;
         }
     }

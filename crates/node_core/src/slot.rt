@@ -1,7 +1,7 @@
 //! What a step makes of the open request that it is about.
 
 ghost use Rattle.std.specs.Prelude.{◌≡◌, ◌↔◌, IsTrue, false};
-ghost use Rattle.node_core.specs.Slots.{IsFound, slot_after};
+ghost use Rattle.node_core.specs.Slots.{IsFound, TakesNew, TakesOld, slot_after};
 ghost use Rattle.node_core.specs.declared.slot.Slot.TheVariants.{Gone};
 
 use std::mem;
@@ -27,17 +27,45 @@ pub(crate) struct Found<W: Drop> {
 }
 
 impl<W: Drop> Slot<W> {
-    /// Takes the request out, if the step has touched it and it is open still.
+    /// Takes the request out, if the step has touched it and it is open still. Else nothing is moved.
     pub(crate) fn take(&mut self) -> Option<Found<W>>
         ensures { IsFound self.old result self.new }
     {
+        if matches!(self, Slot::Untouched | Slot::Gone) {
+            return None;
+        }
         match mem::replace(self, Slot::Untouched) {
             Slot::New(now) => Some(Found { now, is_new: true }),
             Slot::Old(now) => Some(Found { now, is_new: false }),
-            slot => {
-                *self = slot;
-                None
-            }
+            Slot::Untouched | Slot::Gone => None,
+        }
+    }
+}
+
+impl<W: Drop> Slot<W> {
+    /// Takes the request out, if it began in the step. Else nothing is moved.
+    pub(crate) fn take_new(&mut self) -> Option<W>
+        ensures { TakesNew self.old result self.new }
+    {
+        if !matches!(self, Slot::New(_)) {
+            return None;
+        }
+        match mem::replace(self, Slot::Untouched) {
+            Slot::New(now) => Some(now),
+            Slot::Untouched | Slot::Old(_) | Slot::Gone => None,
+        }
+    }
+
+    /// Takes the request out, if it was open before the step and moved. Else nothing is moved.
+    pub(crate) fn take_old(&mut self) -> Option<W>
+        ensures { TakesOld self.old result self.new }
+    {
+        if !matches!(self, Slot::Old(_)) {
+            return None;
+        }
+        match mem::replace(self, Slot::Untouched) {
+            Slot::Old(now) => Some(now),
+            Slot::Untouched | Slot::New(_) | Slot::Gone => None,
         }
     }
 }

@@ -111,13 +111,12 @@ pub(crate) fn request_began(me: NodeId, time: Micros, what: &What) -> Option<Req
     }
 }
 
-/// What of the event the node looks at.
-pub(crate) fn looked(time: Micros, event: Event) -> What
-    ensures { result ≡ looked_at time event }
+/// Leaves of the event what the node looks at.
+pub(crate) fn look(time: Micros, event: &mut Event)
+    ensures { event.new ≡ record event.old { what = looked_at time event.old } }
 {
-    if is_ahead(time, &event) {
-        What::Tick
-    } else {
-        event.what
+    let ahead = is_ahead(time, event);
+    if ahead {
+        event.what = What::Tick;
     }
 }

@@ -110,6 +110,10 @@ impl Work {
     fn enter_all(&mut self, entries: Entries) -> Result<(), AllocError>
         ensures { OnOk result (self.new ≡ record self.old { entries = self.old.entries ++ entries }) }
     {
+        if self.entries.as_slice().is_empty() {
+            self.entries = entries;
+            return Ok(());
+        }
         for entry in entries.into_vec() {
             self.entries.push(entry)?;
         }

@@ -4,8 +4,8 @@ use changes::{ShownCell, ShownRow};
 use cql_values::{CqlType, CqlValue};
 use cs_base::{Bytes, Items, Text};
 use row_values::{
-    RowValues, clustering_values_come_back, each_column_has_a_value, keys_come_back, push_values,
-    values_are_determined, values_are_of_types, values_of,
+    RowValues, clustering_values_come_back, each_column_has_a_value, keys_come_back, push_lines,
+    push_values, values_are_determined, values_are_of_types, values_of,
 };
 use schema_book::{ColumnDef, ColumnKind};
 use std::alloc::{AllocError, Global};
@@ -85,13 +85,17 @@ struct ShownCase<'a> {
     text: &'a str,
 }
 
+fn row(alloc: Global, case: &ShownCase) -> Result<ShownRow, AllocError> {
+    Ok(ShownRow {
+        row: bytes(alloc, case.row)?,
+        cells: cells(alloc, case.cells)?,
+    })
+}
+
 fn values(alloc: Global, case: &ShownCase) -> Result<RowValues, AllocError> {
     let columns = columns(alloc, case.columns)?;
     let key = bytes(alloc, case.key)?;
-    let row = ShownRow {
-        row: bytes(alloc, case.row)?,
-        cells: cells(alloc, case.cells)?,
-    };
+    let row = row(alloc, case)?;
     values_of(alloc, columns.as_slice(), key.as_slice(), &row)
 }
 
@@ -101,6 +105,31 @@ fn printed(alloc: Global, case: &ShownCase) -> Result<Vec<u8>, AllocError> {
     let mut out = Vec::from_slice(alloc, b"> ")?;
     push_values(alloc, &mut out, values.as_slice(), case.shown)?;
     Ok(out)
+}
+
+/// The lines of the row and of the same row once more, behind what the text begins with.
+fn lines(alloc: Global, case: &ShownCase) -> Result<Vec<u8>, AllocError> {
+    let columns = columns(alloc, case.columns)?;
+    let key = bytes(alloc, case.key)?;
+    let mut rows = Items::new(alloc);
+    rows.push(row(alloc, case)?)?;
+    rows.push(row(alloc, case)?)?;
+    let mut out = Vec::from_slice(alloc, b">")?;
+    push_lines(
+        alloc,
+        &mut out,
+        columns.as_slice(),
+        key.as_slice(),
+        case.shown,
+        rows.as_slice(),
+    )?;
+    Ok(out)
+}
+
+/// What these lines have to be.
+fn twice(alloc: Global, text: &str) -> Result<String, AllocError> {
+    let line = text.strip_prefix('>').unwrap_or("");
+    format!(in alloc; ">{line}\n{line}\n")
 }
 
 /// A partition key of an int, a text as clustering column, and another text.
@@ -172,6 +201,28 @@ const SHOWN: [ShownCase; 5] = [
         cells: "3=00 00 00 05",
         shown: &[0, 2, 3],
         text: "> 7 | null | 5",
+        ..PLAIN
+    },
+];
+
+/// Texts with quotes, zeros and characters outside ASCII.
+const TEXTS: [ShownCase; 3] = [
+    ShownCase {
+        row: "c3 a9 00 00",
+        cells: "2=69 74 27 73",
+        text: "> 7 | 'é' | 'it''s'",
+        ..PLAIN
+    },
+    ShownCase {
+        row: "00 00",
+        cells: "2=c3 a9",
+        text: "> 7 | '' | 'é'",
+        ..PLAIN
+    },
+    ShownCase {
+        row: "61 00 ff 62 00 00",
+        cells: "2=",
+        text: "> 7 | 'a\0b' | ''",
         ..PLAIN
     },
 ];
@@ -266,6 +317,16 @@ fn first_other(alloc: Global, cases: &[ShownCase]) -> Result<Option<usize>, Allo
     Ok(None)
 }
 
+/// The place of the first of the rows whose lines are other ones.
+fn first_other_line(alloc: Global, cases: &[ShownCase]) -> Result<Option<usize>, AllocError> {
+    for (place, case) in cases.iter().enumerate() {
+        if lines(alloc, case)?.as_slice() != twice(alloc, case.text)?.as_bytes() {
+            return Ok(Some(place));
+        }
+    }
+    Ok(None)
+}
+
 #[test]
 fn values_are_printed(rt: HostRuntime) -> Result<(), Fail> {
     assert_eq!(rt; first_other(rt.alloc(), &TYPES)?, None);
@@ -287,6 +348,23 @@ fn broken_values_are_null(rt: HostRuntime) -> Result<(), Fail> {
 #[test]
 fn broken_rows_are_null(rt: HostRuntime) -> Result<(), Fail> {
     assert_eq!(rt; first_other(rt.alloc(), &BROKEN_ROWS)?, None);
+    Ok(())
+}
+
+#[test]
+fn texts_are_printed(rt: HostRuntime) -> Result<(), Fail> {
+    assert_eq!(rt; first_other(rt.alloc(), &TEXTS)?, None);
+    Ok(())
+}
+
+#[test]
+fn lines_have_the_same_values(rt: HostRuntime) -> Result<(), Fail> {
+    let alloc = rt.alloc();
+    assert_eq!(rt; first_other_line(alloc, &TYPES)?, None);
+    assert_eq!(rt; first_other_line(alloc, &SHOWN)?, None);
+    assert_eq!(rt; first_other_line(alloc, &TEXTS)?, None);
+    assert_eq!(rt; first_other_line(alloc, &BROKEN)?, None);
+    assert_eq!(rt; first_other_line(alloc, &BROKEN_ROWS)?, None);
     Ok(())
 }
 

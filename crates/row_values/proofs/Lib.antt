@@ -3,5 +3,7 @@ pub mod Reading
 pub mod KeyLaws
 pub mod OrderLaws
 pub mod Counts
+pub mod PlainLaws
+pub mod TextLaws
 pub mod Worked
 pub mod TypeLaws

@@ -11,7 +11,11 @@ use schema_book::ColumnDef;
 use std::alloc::{AllocError, Global};
 
 /// The value of a column whose order bytes stand at the front.
-fn order_front(alloc: Global, column: &ColumnDef, bytes: &[u8]) -> Result<Front, AllocError>
+pub(crate) fn order_front(
+    alloc: Global,
+    column: &ColumnDef,
+    bytes: &[u8],
+) -> Result<Front, AllocError>
     ensures { IfOk result (λ front. IsFrontOf column.now bytes.now front) }
 {
     let ty = column.ty;

@@ -8,13 +8,18 @@ mod clustering;
 mod front;
 mod key;
 mod laws;
+mod lines;
+mod literals;
 mod others;
+mod plain;
 mod print;
 mod row;
+mod words;
 
 pub use laws::{
     clustering_values_come_back, each_column_has_a_value, keys_come_back, values_are_determined,
     values_are_of_types,
 };
+pub use lines::push_lines;
 pub use print::push_values;
 pub use row::{RowValues, values_of};

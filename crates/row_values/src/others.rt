@@ -11,7 +11,7 @@ use key_restrictions::is_key;
 use schema_book::ColumnDef;
 use std::alloc::{AllocError, Global};
 
-fn cell_at(cells: &[ShownCell], number: usize) -> Option<&ShownCell>
+pub(crate) fn cell_at(cells: &[ShownCell], number: usize) -> Option<&ShownCell>
     ensures { option_copied result ≡ find (λ c. c.column == number) cells.now }
 {
     cells.iter().find(|cell| usize::from(cell.column) == number)

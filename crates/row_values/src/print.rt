@@ -1,10 +1,27 @@
 //! Values in print.
 
 ghost use Rattle.std.specs.Prelude.{◌≡◌, ◌++◌, OnOk};
-ghost use Rattle.row_values.specs.Prints.{text_at, values_text};
+ghost use Rattle.row_values.specs.Prints.{value_text, text_at, values_text};
 
 use cql_values::{CqlValue, print_literal};
 use std::alloc::{AllocError, Global};
+
+/// Prints a value, or `null` for none.
+pub(crate) fn push_value(
+    alloc: Global,
+    out: &mut Vec<u8>,
+    value: &Option<CqlValue>,
+) -> Result<(), AllocError>
+    ensures { OnOk result (out.new.items ≡ out.old.items ++ value_text value.now) }
+{
+    match value {
+        Some(value) => {
+            let text = print_literal(alloc, value)?;
+            out.extend_from_slice(text.as_str().as_bytes())
+        }
+        None => out.extend_from_slice(b"null"),
+    }
+}
 
 /// Prints the value of the column of this number.
 fn push_value_at(
@@ -16,11 +33,8 @@ fn push_value_at(
     ensures { OnOk result (out.new.items ≡ out.old.items ++ text_at values.now number) }
 {
     match values.get(usize::from(number)) {
-        Some(Some(value)) => {
-            let text = print_literal(alloc, value)?;
-            out.extend_from_slice(text.as_str().as_bytes())
-        }
-        Some(None) | None => out.extend_from_slice(b"null"),
+        Some(value) => push_value(alloc, out, value),
+        None => out.extend_from_slice(b"null"),
     }
 }
 

@@ -1,5 +1,5 @@
--- What an index has after a table more.
-use Rattle.std.proofs.Common.{◌≡◌, ◌<◌, ◌+◌, ◌++◌, ◌∷◌, ◌&&◌, [], ℕ, zero, suc, arith, Bool, true, false, cond, List, length, get_or, take, Option, Some, None, refl, sym, ap, ◌∙◌, subst}
+-- What has its place after one more.
+use Rattle.std.proofs.Common.{◌≡◌, ◌++◌, ◌∷◌, ◌&&◌, [], ℕ, zero, suc, Bool, true, false, cond, List, length, Option, Some, None, refl, sym, ap, ◌∙◌, subst}
 use Rattle.std.specs.List.{find}
 use Rattle.std.specs.Option.{option_or, is_some}
 use Rattle.std.specs.Prelude.{slice_get}
@@ -7,12 +7,14 @@ use Rattle.std.specs.Str.{bytes_eq}
 use Rattle.std.specs.BTreeMap.{get_by_text}
 use Rattle.std.proofs.lemmas.Slice.Eq.{bytes_eq-Decides}
 use Rattle.std.proofs.lemmas.List.Folds.{find-append}
-use Rattle.std.proofs.Math.Seq.{take-suc}
+use Rattle.cql_statement.specs.declared.schema.ColumnItem.{ColumnItem}
 use Rattle.schema_book.specs.declared.index.Index.{Index}
 use Rattle.schema_book.specs.declared.index.Names.{Names}
+use Rattle.schema_book.specs.declared.table.Keyspace.{Keyspace}
 use Rattle.schema_book.specs.declared.table.Table.{Table}
 use Rattle.schema_book.specs.Books.{is_of}
-use Rattle.schema_book.specs.Places.{place_named, place_of, lone_place, Enters, TakesOut, EntersTable, StandsAt, IsIndexOf}
+use Rattle.schema_book.specs.Places.{lone_place, Enters, StandsAt, AreKeyspacePlaces, AreItemPlaces}
+use Rattle.schema_book.specs.Indexes.{place_named, place_of, TakesOut, EntersTable, IsIndexOf}
 
 or_none : {A : Type 0} (o : Option A) → o ≡ option_or o None
 or_none None = refl
@@ -55,26 +57,47 @@ entered old mid new t place names names' out enters put = λ keyspace name. by_k
         ∙ (or_none (place_of old keyspace name)
         ∙ ap (λ (b : Bool). option_or (place_of old keyspace name) (cond (b && bytes_eq t.name name) (Some place) None)) (sym e))
 
--- what is found among one table more
-stands : (tables : List Table) (o : Option ℕ) (f : Option Table) (place : ℕ) (t : Table) (b : Bool) → slice_get tables place ≡ Some t
-    → StandsAt tables o f → StandsAt tables (option_or o (cond b (Some place) None)) (option_or f (cond b (Some t) None))
-stands tables (Some n) f place t b at h = (h.0, ap (λ (x : Option Table). option_or x (cond b (Some t) None)) h.1, h.2)
-stands tables None f place t true at h = (t, ap (λ (x : Option Table). option_or x (Some t)) h, at)
-stands tables None f place t false at h = ap (λ (x : Option Table). option_or x None) h
+-- what is found among one more
+found_more : {A : Type 0} (listed : List A) (o : Option ℕ) (f : Option A) (place : ℕ) (x : A) (b : Bool) → slice_get listed place ≡ Some x
+    → StandsAt listed o f → StandsAt listed (option_or o (cond b (Some place) None)) (option_or f (cond b (Some x) None))
+found_more listed (Some n) f place x b at h = (h.0, ap (λ o. option_or o (cond b (Some x) None)) h.1, h.2)
+found_more listed None f place x true at h = (x, ap (λ o. option_or o (Some x)) h, at)
+found_more listed None f place x false at h = ap (λ o. option_or o None) h
 
-get_is : (tables : List Table) (i : ℕ) (d : Table) → i < length tables → slice_get tables i ≡ Some (get_or tables i d)
-get_is [] i d low = absurd (omega arith)
-get_is (x ∷ xs) zero d low = refl
-get_is (x ∷ xs) (suc i) d low = get_is xs i d (omega arith)
+at_same : {A : Type 0} (xs : List A) (x : A) (i : ℕ) (y : A) → slice_get xs i ≡ Some y → slice_get (xs ++ x ∷ []) i ≡ Some y
+at_same [] x i y e = absurd (cc)
+at_same (z ∷ xs) x zero y e = e
+at_same (z ∷ xs) x (suc i) y e = at_same xs x i y e
 
-next : (i : ℕ) → i + 1 ≡ suc i
-next i = omega arith
+at_end : {A : Type 0} (xs : List A) (x : A) → slice_get (xs ++ x ∷ []) (length xs) ≡ Some x
+at_end [] x = refl
+at_end (z ∷ xs) x = at_end xs x
 
-pub listed_more : (tables : List Table) (i : ℕ) (t : Table) (index index' : Index) → i < length tables → IsIndexOf tables index (take i tables)
-    → get_or tables i t ≡ t → EntersTable index t i index' → IsIndexOf tables index' (take (i + 1) tables)
-listed_more tables i t index index' low is item enters = λ keyspace name.
+stays : {A : Type 0} (xs : List A) (x : A) (o : Option ℕ) (f : Option A) → StandsAt xs o f → StandsAt (xs ++ x ∷ []) o f
+stays xs x None f h = h
+stays xs x (Some n) f h = (h.0, h.1, at_same xs x n h.0 h.2)
+
+one_more : {A : Type 0} (p : A → Bool) (xs : List A) (x : A) (o : Option ℕ) → StandsAt xs o (find p xs)
+    → StandsAt (xs ++ x ∷ []) (option_or o (cond (p x) (Some (length xs)) None)) (find p (xs ++ x ∷ []))
+one_more {A} p xs x o h =
+    let all = xs ++ x ∷ [] in
+    subst (λ (f : Option A). StandsAt all (option_or o (cond (p x) (Some (length xs)) None)) f) (sym (find-append p xs (x ∷ [])))
+    (found_more all o (find p xs) (length xs) x (p x) (at_end xs x) (stays xs x o (find p xs) h))
+
+pub keyspace_more : (ks : List Keyspace) (k : Keyspace) (names names' : Names) → AreKeyspacePlaces ks names → Enters names k.name (length ks) names'
+    → AreKeyspacePlaces (ks ++ k ∷ []) names'
+keyspace_more ks k names names' are enters = λ name.
+    let p : Keyspace → Bool = λ x. bytes_eq x.name name in
+    subst (λ (o : Option ℕ). StandsAt (ks ++ k ∷ []) o (find p (ks ++ k ∷ []))) (sym (enters name)) (one_more p ks k (get_by_text names.places name) (are name))
+
+pub item_more : (cs : List ColumnItem) (c : ColumnItem) (names names' : Names) → AreItemPlaces cs names → Enters names c.name (length cs) names'
+    → AreItemPlaces (cs ++ c ∷ []) names'
+item_more cs c names names' are enters = λ name.
+    let p : ColumnItem → Bool = λ x. bytes_eq x.name name in
+    subst (λ (o : Option ℕ). StandsAt (cs ++ c ∷ []) o (find p (cs ++ c ∷ []))) (sym (enters name)) (one_more p cs c (get_by_text names.places name) (are name))
+
+pub table_more : (ts : List Table) (t : Table) (index index' : Index) → IsIndexOf ts index → EntersTable index t (length ts) index'
+    → IsIndexOf (ts ++ t ∷ []) index'
+table_more ts t index index' is enters = λ keyspace name.
     let p = is_of keyspace name in
-    subst (λ (xs : List Table). StandsAt tables (place_of index' keyspace name) (find p xs)) (sym (ap (λ (n : ℕ). take n tables) (next i) ∙ (take-suc tables i t low ∙ ap (λ (u : Table). take i tables ++ u ∷ []) item)))
-    (subst (λ (f : Option Table). StandsAt tables (place_of index' keyspace name) f) (sym (find-append p (take i tables) (t ∷ [])))
-    (subst (λ (o : Option ℕ). StandsAt tables o (option_or (find p (take i tables)) (find p (t ∷ [])))) (sym (enters keyspace name))
-    (stands tables (place_of index keyspace name) (find p (take i tables)) i t (p t) (get_is tables i t low ∙ ap Some item) (is keyspace name))))
+    subst (λ (o : Option ℕ). StandsAt (ts ++ t ∷ []) o (find p (ts ++ t ∷ []))) (sym (enters keyspace name)) (one_more p ts t (place_of index keyspace name) (is keyspace name))

@@ -14,7 +14,8 @@ use Rattle.cql_statement.specs.declared.schema.TableOption.{TableOption}
 use Rattle.schema_book.specs.declared.outline.Outline.{Outline}
 use Rattle.schema_book.specs.declared.table.ColumnDef.{ColumnDef}
 use Rattle.schema_book.specs.declared.table.ColumnKind.TheVariants.{Partition, Clustering, Regular}
-use Rattle.schema_book.specs.Outlines.{column_in, partition_in, clustering_in}
+use Rattle.schema_book.specs.Places.{column_in}
+use Rattle.schema_book.specs.Outlines.{partition_in, clustering_in}
 use Rattle.schema_book.specs.Columns.{found, def_of, partition_def, partition_defs, clustering_item, clustering_def, clustering_defs, is_of_key, with_other, sorted_others, defs_of}
 use Rattle.schema_book.specs.Laws.{Ascend, AreAll, StandInOrder}
 

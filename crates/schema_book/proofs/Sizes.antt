@@ -2,6 +2,7 @@
 use Rattle.std.proofs.Common.{◌≡◌, ◌≤◌, ◌+◌, ◌++◌, ◌∷◌, ◌||◌, [], ℕ, suc, Bool, true, false, cond, eqb, nat_lt, not, List, length, fold, flat_map, Option, Some, None, arith, refl, sym, ap, ◌∙◌, subst}
 use Rattle.std.specs.Prelude.{count_by}
 use Rattle.std.specs.List.{list_any}
+use Rattle.std.specs.Option.{is_some}
 use Rattle.std.specs.Map.{values_of}
 use Rattle.std.specs.BTreeMap.{insert_entry}
 use Rattle.std.specs.declared.cmp.Ordering.{Ordering}
@@ -11,6 +12,7 @@ use Rattle.std.specs.Cmp.Lexicographic.{slice_cmp}
 use Rattle.std.specs.Str.{bytes_eq}
 use Rattle.std.proofs.lemmas.Bool.Decides.{nat_tests}
 use Rattle.std.proofs.lemmas.Slice.Eq.{bytes_eq-Decides}
+use Rattle.std.proofs.lemmas.List.Folds.{list_any-append}
 use Rattle.std.proofs.lemmas.List.Sums.{sum_by-cons}
 use Rattle.std.proofs.lemmas.List.{length-append}
 use Rattle.cql_statement.specs.declared.schema.ColumnItem.{ColumnItem}
@@ -19,8 +21,9 @@ use Rattle.cql_statement.specs.declared.schema.TableOption.{TableOption}
 use Rattle.schema_book.specs.declared.outline.Outline.{Outline}
 use Rattle.schema_book.specs.declared.table.ColumnDef.{ColumnDef}
 use Rattle.schema_book.specs.declared.table.ColumnKind.TheVariants.{Partition, Regular}
-use Rattle.schema_book.specs.Names.{is_among, times, has_twice}
-use Rattle.schema_book.specs.Outlines.{column_in, is_column, is_unknown, partition_in, clustering_in, defines_twice, some_twice, some_unknown, share, names_twice, has_unknown}
+use Rattle.schema_book.specs.Names.{is_among, stands_again, has_twice}
+use Rattle.schema_book.specs.Places.{column_in}
+use Rattle.schema_book.specs.Outlines.{is_column, is_unknown, partition_in, clustering_in, defines_twice, some_twice, some_unknown, names_twice, has_unknown}
 use Rattle.schema_book.specs.Columns.{found, def_of, partition_def, partition_defs, clustering_item, clustering_def, clustering_defs, is_of_key, with_other, sorted_others, defs_of}
 use Rattle.schema_book.specs.Books.{key_fault, size_fault, most_columns}
 
@@ -66,57 +69,39 @@ count_not p (x ∷ xs) = let rest = count_not p xs in go (p x) (count_cons p x x
     go true pc nc rest = omega arith
     go false pc nc rest = omega arith
 
--- of a test that some pass and one that none passes
-witness : {A : Type 0} (p q : A → Bool) (xs : List A) → list_any p xs ≡ true → list_any q xs ≡ false → (y : A) × (p y ≡ true) × (q y ≡ false)
-witness {A} p q [] h k = absurd (cc)
-witness {A} p q (x ∷ xs) h k =
-    let parts = or_parts (q x) (list_any q xs) k in
-    go (p x) refl h parts.0 (λ g. witness p q xs g parts.1)
-  where
-    go : (a : Bool) → p x ≡ a → (a || list_any p xs) ≡ true → q x ≡ false
-        → (list_any p xs ≡ true → (y : A) × (p y ≡ true) × (q y ≡ false)) → (y : A) × (p y ≡ true) × (q y ≡ false)
-    go true e g f rest = (x, e, f)
-    go false e g f rest = rest g
-
-count_none : {A : Type 0} (p : A → Bool) (xs : List A) → list_any p xs ≡ false → count_by p xs ≡ 0
-count_none p [] h = refl
-count_none p (x ∷ xs) h =
-    let parts = or_parts (p x) (list_any p xs) h in
-    let rest = count_none p xs parts.1 in
-    let step = count_cons p x xs ∙ ap (λ (a : Bool). cond a 1 0 + count_by p xs) parts.0 in
-    omega arith
-
--- ---- names that stand once
-
-abbrev Once : List (List ℕ) → Type 0
-Once names = (x : List ℕ) → times names x ≤ 1
+count_same : {A : Type 0} (p q : A → Bool) → ((x : A) → p x ≡ q x) → (xs : List A) → count_by p xs ≡ count_by q xs
+count_same p q same [] = refl
+count_same p q same (x ∷ xs) =
+    count_cons p x xs
+    ∙ (ap (λ (a : Bool). cond a 1 0 + count_by p xs) (same x)
+    ∙ (ap (λ (n : ℕ). cond (q x) 1 0 + n) (count_same p q same xs)
+    ∙ sym (count_cons q x xs)))
 
 not_below : (n m : ℕ) → nat_lt n m ≡ false → m ≤ n
 not_below n m h = grind (arith, nat_tests)
 
-once : (names : List (List ℕ)) → has_twice names ≡ false → Once names
-once names h x = go (is_among x names) refl
-  where
-    go : (a : Bool) → is_among x names ≡ a → times names x ≤ 1
-    go false e = let none = count_none (λ y. bytes_eq y x) names e in omega arith
-    go true e =
-        let w = witness (λ y. bytes_eq y x) (λ y. nat_lt 1 (times names y)) names e h in
-        let same : w.0 ≡ x = (bytes_eq-Decides w.0 x).0 w.1 in
-        subst (λ (y : List ℕ). times names y ≤ 1) same (not_below 1 (times names w.0) w.2)
+-- ---- names that stand once
 
-once_rest : (n : List ℕ) (ns : List (List ℕ)) → Once (n ∷ ns) → Once ns
-once_rest n ns h x = let step = count_cons (λ y. bytes_eq y x) n ns in let all = h x in omega arith
+or_last : (a b : Bool) → b ≡ true → (a || b) ≡ true
+or_last true b h = refl
+or_last false b h = h
 
-once_new : (n : List ℕ) (ns : List (List ℕ)) → Once (n ∷ ns) → is_among n ns ≡ false
-once_new n ns h = go (is_among n ns) refl
+-- a name before others of which none stands again
+new_behind : (before ns : List (List ℕ)) (y : List ℕ) → stands_again before ns ≡ false → is_among y before ≡ true → is_among y ns ≡ false
+new_behind before [] y h k = refl
+new_behind before (x ∷ xs) y h k =
+    let parts = or_parts (is_among x before) (stands_again (x ∷ before) xs) h in
+    go (bytes_eq x y) refl parts.0 (new_behind (x ∷ before) xs y parts.1 (or_last (bytes_eq x y) (is_among y before) k))
   where
-    go : (a : Bool) → is_among n ns ≡ a → is_among n ns ≡ false
-    go false e = e
-    go true e =
-        let some = count_any (λ y. bytes_eq y n) ns e in
-        let self : bytes_eq n n ≡ true = (bytes_eq-Decides n n).1 refl in
-        let step : times (n ∷ ns) n ≡ 1 + times ns n = count_cons (λ y. bytes_eq y n) n ns ∙ ap (λ (a : Bool). cond a 1 0 + times ns n) self in
-        let all = h n in absurd (omega arith)
+    go : (a : Bool) → bytes_eq x y ≡ a → is_among x before ≡ false → is_among y xs ≡ false → (a || is_among y xs) ≡ false
+    go true e new rest =
+        let same : x ≡ y = (bytes_eq-Decides x y).0 e in
+        let absent : is_among y before ≡ false = subst (λ (n : List ℕ). is_among n before ≡ false) same new in
+        absurd (cc)
+    go false e new rest = rest
+
+among_self : (n : List ℕ) (before : List (List ℕ)) → is_among n (n ∷ before) ≡ true
+among_self n before = ap (λ (a : Bool). a || is_among n before) ((bytes_eq-Decides n n).1 refl)
 
 -- ---- the columns of a key are among all
 
@@ -134,24 +119,22 @@ turned_any : (columns : List ColumnItem) (n : List ℕ) → is_column columns n 
 turned_any [] n h = absurd (cc)
 turned_any (c ∷ cs) n h = go (bytes_eq c.name n) refl h (λ g. turned_any cs n g)
   where
-    go : (a : Bool) → bytes_eq c.name n ≡ a → (a || is_column cs n) ≡ true → (is_column cs n ≡ true → list_any (λ d. bytes_eq n d.name) cs ≡ true)
+    go : (a : Bool) → bytes_eq c.name n ≡ a → is_some (cond a (Some c) (column_in cs n)) ≡ true → (is_column cs n ≡ true → list_any (λ d. bytes_eq n d.name) cs ≡ true)
         → (bytes_eq n c.name || list_any (λ d. bytes_eq n d.name) cs) ≡ true
     go true e g rest = ap (λ (a : Bool). a || list_any (λ d. bytes_eq n d.name) cs) (turned c.name n e)
     go false e g rest = or_last (bytes_eq n c.name) (list_any (λ d. bytes_eq n d.name) cs) (rest g)
-      where
-        or_last : (a b : Bool) → b ≡ true → (a || b) ≡ true
-        or_last true b h = refl
-        or_last false b h = h
 
-fits : (columns : List ColumnItem) (names : List (List ℕ)) → Once names → list_any (is_unknown columns) names ≡ false
+fits : (columns : List ColumnItem) (before names : List (List ℕ)) → stands_again before names ≡ false → list_any (is_unknown columns) names ≡ false
     → length names ≤ count_by (λ c. is_among c.name names) columns
-fits columns [] h k = omega arith
-fits columns (n ∷ ns) h k =
+fits columns before [] h k = omega arith
+fits columns before (n ∷ ns) h k =
+    let once = or_parts (is_among n before) (stands_again (n ∷ before) ns) h in
     let parts = or_parts (is_unknown columns n) (list_any (is_unknown columns) ns) k in
-    let rest = fits columns ns (once_rest n ns h) parts.1 in
+    let rest = fits columns (n ∷ before) ns once.1 parts.1 in
+    let new = new_behind (n ∷ before) ns n once.1 (among_self n before) in
     let one = count_any (λ c. bytes_eq n c.name) columns (turned_any columns n (known columns n parts.0)) in
     let both = count_or (λ (c : ColumnItem). bytes_eq n c.name) (λ c. is_among c.name ns)
-    (λ c e. subst (λ (m : List ℕ). is_among m ns ≡ false) ((bytes_eq-Decides n c.name).0 e) (once_new n ns h)) columns in
+    (λ c e. subst (λ (m : List ℕ). is_among m ns ≡ false) ((bytes_eq-Decides n c.name).0 e) new) columns in
     omega arith
 
 -- ---- the columns of a table
@@ -200,20 +183,19 @@ values_same (d ∷ ds) = ap suc (values_same ds)
 
 -- a key whose columns stand once, and are all defined
 record IsSound (columns : List ColumnItem) (ps cs : List (List ℕ)) : Type 0 where
-  partition : Once ps
-  clustering : Once cs
-  apart : share ps cs ≡ false
+  once : has_twice (ps ++ cs) ≡ false
   known_partition : list_any (is_unknown columns) ps ≡ false
   known_clustering : list_any (is_unknown columns) cs ≡ false
 
 key_fits : (columns : List ColumnItem) (ps cs : List (List ℕ)) → IsSound columns ps cs
     → length ps + length cs ≤ count_by (λ c. is_among c.name ps || is_among c.name cs) columns
 key_fits columns ps cs is =
-    let p = fits columns ps is.partition is.known_partition in
-    let c = fits columns cs is.clustering is.known_clustering in
-    let both = count_or (λ (d : ColumnItem). is_among d.name ps) (λ d. is_among d.name cs)
-    (λ d e. let w = witness (λ x. bytes_eq x d.name) (λ x. is_among x cs) ps e is.apart in
-    subst (λ (m : List ℕ). is_among m cs ≡ false) ((bytes_eq-Decides w.0 d.name).0 w.1) w.2) columns in
+    let unknown : list_any (is_unknown columns) (ps ++ cs) ≡ false =
+    list_any-append (is_unknown columns) ps cs ∙ (ap (λ (a : Bool). a || list_any (is_unknown columns) cs) is.known_partition ∙ is.known_clustering) in
+    let all = fits columns [] (ps ++ cs) is.once unknown in
+    let both = length-append ps cs in
+    let same = count_same (λ (c : ColumnItem). is_among c.name (ps ++ cs)) (λ c. is_among c.name ps || is_among c.name cs)
+    (λ c. list_any-append (λ x. bytes_eq x c.name) ps cs) columns in
     omega arith
 
 narrow : (options : List TableOption) (o : Outline) → IsSound o.columns (partition_in o.keys) (clustering_in o.keys) → length (defs_of options o) ≤ length o.columns
@@ -239,20 +221,16 @@ passed false f rest e = (refl, e)
 sound_key : (columns : List ColumnItem) (k : KeyItem) → names_twice k ≡ false → (has_unknown columns k.partition || has_unknown columns k.clustering) ≡ false
     → IsSound columns k.partition k.clustering
 sound_key columns k twice unknown =
-    let first = or_parts (has_twice k.partition) (has_twice k.clustering || share k.partition k.clustering) twice in
-    let second = or_parts (has_twice k.clustering) (share k.partition k.clustering) first.1 in
     let names = or_parts (has_unknown columns k.partition) (has_unknown columns k.clustering) unknown in
     record {
-      partition = once k.partition first.0;
-      clustering = once k.clustering second.0;
-      apart = second.1;
+      once = twice;
       known_partition = names.0;
       known_clustering = names.1;
     }
 
 sound : (columns : List ColumnItem) (keys : List KeyItem) → some_twice keys ≡ false → some_unknown columns keys ≡ false
     → IsSound columns (partition_in keys) (clustering_in keys)
-sound columns [] twice unknown = record { partition = λ x. omega arith; clustering = λ x. omega arith; apart = refl; known_partition = refl; known_clustering = refl }
+sound columns [] twice unknown = record { once = refl; known_partition = refl; known_clustering = refl }
 sound columns (k ∷ ks) twice unknown =
     let here = or_parts (names_twice k) (some_twice ks) twice in
     let there = or_parts (has_unknown columns k.partition || has_unknown columns k.clustering) (some_unknown columns ks) unknown in

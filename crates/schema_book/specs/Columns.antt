@@ -13,7 +13,8 @@ use Rattle.schema_book.specs.declared.table.ColumnKind.{ColumnKind}
 use Rattle.schema_book.specs.declared.table.ColumnKind.TheVariants.{Partition, Clustering, Regular}
 use Rattle.schema_book.specs.Names.{is_among}
 use Rattle.schema_book.specs.Options.{falls_in}
-use Rattle.schema_book.specs.Outlines.{column_in, partition_in, clustering_in}
+use Rattle.schema_book.specs.Places.{column_in}
+use Rattle.schema_book.specs.Outlines.{partition_in, clustering_in}
 use Rattle.schema_book.specs.declared.outline.Outline.{Outline}
 
 abbrev pub def_of : ColumnKind → Bool → ColumnItem → ColumnDef

@@ -5,4 +5,5 @@ pub mod Replication
 pub mod Columns
 pub mod Books
 pub mod Places
+pub mod Indexes
 pub mod Laws

@@ -1,5 +1,5 @@
 -- Lists of names.
-use Rattle.std.specs.Prelude.{ℕ, ◌&&◌, nat_lt, Bool, true, false, List, [], ◌∷◌, count_by}
+use Rattle.std.specs.Prelude.{ℕ, ◌&&◌, ◌||◌, Bool, true, false, List, [], ◌∷◌}
 use Rattle.std.specs.List.{list_any}
 use Rattle.std.specs.Str.{bytes_eq}
 
@@ -7,13 +7,14 @@ use Rattle.std.specs.Str.{bytes_eq}
 abbrev pub is_among : List ℕ → List (List ℕ) → Bool
 is_among name names = list_any (λ x. bytes_eq x name) names
 
--- how often a name stands
-abbrev pub times : List (List ℕ) → List ℕ → ℕ
-times names name = count_by (λ x. bytes_eq x name) names
+-- whether a name stands twice, or among those before
+abbrev pub stands_again : List (List ℕ) → List (List ℕ) → Bool
+stands_again before [] = false
+stands_again before (x ∷ xs) = is_among x before || stands_again (x ∷ before) xs
 
 -- whether some name stands twice
 abbrev pub has_twice : List (List ℕ) → Bool
-has_twice names = list_any (λ name. nat_lt 1 (times names name)) names
+has_twice names = stands_again [] names
 
 -- whether the first names are those in front of the second
 abbrev pub is_front : List (List ℕ) → List (List ℕ) → Bool

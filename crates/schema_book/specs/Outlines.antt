@@ -1,7 +1,6 @@
 -- What stands between the parentheses of CREATE TABLE: columns and keys (CQL reference, "CREATE TABLE").
-use Rattle.std.specs.Prelude.{ℕ, ◌||◌, ◌&&◌, nat_lt, not, if◌then◌else◌, Bool, true, false, List, [], ◌∷◌, Option, flat_map, count_by}
-use Rattle.std.specs.List.{list_any, find}
-use Rattle.std.specs.Str.{bytes_eq}
+use Rattle.std.specs.Prelude.{ℕ, ◌||◌, ◌&&◌, not, if◌then◌else◌, is_some, Bool, true, false, List, [], ◌∷◌, ◌++◌, map, flat_map}
+use Rattle.std.specs.List.{list_any}
 use Rattle.cql_values.specs.declared.value.CqlType.{CqlType}
 use Rattle.cql_values.specs.declared.value.CqlType.TheVariants as types
 use Rattle.cql_statement.specs.declared.schema.ColumnItem.{ColumnItem}
@@ -10,6 +9,7 @@ use Rattle.cql_statement.specs.declared.schema.TableItem.{TableItem}
 use Rattle.cql_statement.specs.declared.schema.TableItem.TheVariants.{Column, PrimaryKey}
 use Rattle.schema_book.specs.declared.outline.Outline.{Outline}
 use Rattle.schema_book.specs.Names.{is_among, has_twice}
+use Rattle.schema_book.specs.Places.{column_in}
 
 abbrev pub item_columns : TableItem → List ColumnItem
 item_columns (Column c) = c ∷ []
@@ -32,12 +32,8 @@ keys_in items = flat_map item_keys items
 abbrev pub outline_of : List TableItem → Outline
 outline_of items = record { columns = columns_in items; keys = keys_in items }
 
--- the column of this name
-abbrev pub column_in : List ColumnItem → List ℕ → Option ColumnItem
-column_in columns name = find (λ c. bytes_eq c.name name) columns
-
 abbrev pub is_column : List ColumnItem → List ℕ → Bool
-is_column columns name = list_any (λ c. bytes_eq c.name name) columns
+is_column columns name = is_some (column_in columns name)
 
 -- the clustering columns of the table's key
 abbrev pub clustering_in : List KeyItem → List (List ℕ)
@@ -50,20 +46,16 @@ partition_in (k ∷ ks) = k.partition
 
 -- ---- what is wrong with a table
 
-abbrev pub times_defined : List ColumnItem → List ℕ → ℕ
-times_defined columns name = count_by (λ c. bytes_eq c.name name) columns
+abbrev pub name_of : ColumnItem → List ℕ
+name_of c = c.name
 
 -- a column is defined twice
 abbrev pub defines_twice : List ColumnItem → Bool
-defines_twice columns = list_any (λ c. nat_lt 1 (times_defined columns c.name)) columns
-
--- whether the two have a name in common
-abbrev pub share : List (List ℕ) → List (List ℕ) → Bool
-share names others = list_any (λ name. is_among name others) names
+defines_twice columns = has_twice (map name_of columns)
 
 -- a key names a column twice
 abbrev pub names_twice : KeyItem → Bool
-names_twice k = has_twice k.partition || (has_twice k.clustering || share k.partition k.clustering)
+names_twice k = has_twice (k.partition ++ k.clustering)
 
 abbrev pub is_unknown : List ColumnItem → List ℕ → Bool
 is_unknown columns name = not (is_column columns name)

@@ -1,27 +1,12 @@
--- An index of tables, by keyspace and name.
-use Rattle.std.specs.Prelude.{◌≡◌, ℕ, if◌then◌else◌, List, Option, None, Some, slice_get}
+-- Where what has a name stands in a list.
+use Rattle.std.specs.Prelude.{◌≡◌, ℕ, if◌then◌else◌, is_some, true, false, List, Option, None, Some, slice_get}
 use Rattle.std.specs.List.{find}
 use Rattle.std.specs.Option.{option_or}
 use Rattle.std.specs.Str.{bytes_eq}
 use Rattle.std.specs.BTreeMap.{get_by_text}
-use Rattle.schema_book.specs.declared.index.Index.{Index}
+use Rattle.cql_statement.specs.declared.schema.ColumnItem.{ColumnItem}
 use Rattle.schema_book.specs.declared.index.Names.{Names}
-use Rattle.schema_book.specs.declared.table.Table.{Table}
-use Rattle.schema_book.specs.Books.{is_of}
-
-abbrev pub place_named : Option Names → List ℕ → Option ℕ
-place_named None name = None
-place_named (Some names) name = get_by_text names.places name
-
--- the place that the index has for these names
-abbrev pub place_of : Index → List ℕ → List ℕ → Option ℕ
-place_of index keyspace name = place_named (get_by_text index.keyspaces keyspace) name
-
--- the names of a keyspace, which the index loses
-abbrev pub TakesOut : Index → List ℕ → Index → Names → Type 0
-TakesOut index keyspace index' names =
-    ((q : List ℕ) → get_by_text names.places q ≡ place_of index keyspace q)
-    × ((k : List ℕ) → get_by_text index'.keyspaces k ≡ (if bytes_eq keyspace k then None else get_by_text index.keyspaces k))
+use Rattle.schema_book.specs.declared.table.Keyspace.{Keyspace}
 
 -- a place for this name alone
 abbrev pub lone_place : ℕ → List ℕ → List ℕ → Option ℕ
@@ -31,20 +16,28 @@ lone_place place name q = if bytes_eq name q then Some place else None
 abbrev pub Enters : Names → List ℕ → ℕ → Names → Type 0
 Enters names name place names' = (q : List ℕ) → get_by_text names'.places q ≡ option_or (get_by_text names.places q) (lone_place place name q)
 
--- a place for these names alone
-abbrev pub table_place : ℕ → Table → List ℕ → List ℕ → Option ℕ
-table_place place t keyspace name = if is_of keyspace name t then Some place else None
-
--- an index, with the place of a table, unless its names had one
-abbrev pub EntersTable : Index → Table → ℕ → Index → Type 0
-EntersTable index t place index' =
-    (keyspace name : List ℕ) → place_of index' keyspace name ≡ option_or (place_of index keyspace name) (table_place place t keyspace name)
+-- names, with a place for one that had none; none where it had one
+abbrev pub AddsNew : Names → List ℕ → Option Names → Type 0
+AddsNew names name None = is_some (get_by_text names.places name) ≡ true
+AddsNew names name (Some names') = (is_some (get_by_text names.places name) ≡ false) × Enters names name 0 names'
 
 -- what is found stands at the place
-abbrev pub StandsAt : List Table → Option ℕ → Option Table → Type 0
-StandsAt tables None found = found ≡ None
-StandsAt tables (Some place) found = (t : Table) × (found ≡ Some t) × (slice_get tables place ≡ Some t)
+abbrev pub StandsAt : {A : Type 0} → List A → Option ℕ → Option A → Type 0
+StandsAt listed None found = found ≡ None
+StandsAt {A} listed (Some place) found = (x : A) × (found ≡ Some x) × (slice_get listed place ≡ Some x)
 
--- the index has the places of those of the tables that are listed
-abbrev pub IsIndexOf : List Table → Index → List Table → Type 0
-IsIndexOf tables index listed = (keyspace name : List ℕ) → StandsAt tables (place_of index keyspace name) (find (is_of keyspace name) listed)
+-- the first keyspace of this name
+abbrev pub keyspace_in : List Keyspace → List ℕ → Option Keyspace
+keyspace_in keyspaces name = find (λ k. bytes_eq k.name name) keyspaces
+
+-- the names have the places of these keyspaces
+abbrev pub AreKeyspacePlaces : List Keyspace → Names → Type 0
+AreKeyspacePlaces keyspaces names = (name : List ℕ) → StandsAt keyspaces (get_by_text names.places name) (keyspace_in keyspaces name)
+
+-- the first column of this name
+abbrev pub column_in : List ColumnItem → List ℕ → Option ColumnItem
+column_in columns name = find (λ c. bytes_eq c.name name) columns
+
+-- the names have the places of these columns
+abbrev pub AreItemPlaces : List ColumnItem → Names → Type 0
+AreItemPlaces columns names = (name : List ℕ) → StandsAt columns (get_by_text names.places name) (column_in columns name)

@@ -7,7 +7,6 @@ use crate::index::Names;
 use crate::table::ColumnDef;
 use cs_base::Items;
 use std::alloc::{AllocError, Global};
-use std::collections::BTreeMap;
 use std::marker::Model;
 
 /// The columns of a table, in its order. They are found by name through an ordered map.
@@ -33,9 +32,7 @@ impl Model for ColumnDefs {
 fn places_of(alloc: Global, defs: &[ColumnDef]) -> Result<Names, AllocError>
     ensures { IfOk result (ArePlacesOf defs.now) }
 {
-    let mut places = Names {
-        places: BTreeMap::new(alloc),
-    };
+    let mut places = Names::new(alloc);
     let mut place = 0;
     for def in defs {
         places = places.enter(alloc, &def.name, place)?;

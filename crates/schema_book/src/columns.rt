@@ -5,9 +5,10 @@ ghost use Rattle.std.specs.Map.{values_of};
 ghost use Rattle.schema_book.specs.Columns.{def_of as def_of_column, partition_def, partition_defs, clustering_item, clustering_def, clustering_defs, is_of_key as is_of_key_of, with_other, sorted_others as sorted_others_of, defs_of as defs_of_outline};
 
 use crate::column_defs::ColumnDefs;
+use crate::column_items::ColumnItems;
 use crate::names::is_among;
 use crate::options::falls_in;
-use crate::outline::{Outline, column_in};
+use crate::outline::Outline;
 use crate::table::{ColumnDef, ColumnKind};
 use cql_statement::{ColumnItem, TableOption};
 use cs_base::{Bytes, Items, Text};
@@ -34,12 +35,12 @@ fn def_of(
 fn add_partition_def(
     defs: &mut Items<ColumnDef>,
     alloc: Global,
-    columns: &[ColumnItem],
+    columns: &ColumnItems,
     name: &Text,
 ) -> Result<(), AllocError>
     ensures { OnOk result (defs.new ≡ defs.old ++ partition_def columns.now name.now) }
 {
-    if let Some(column) = column_in(columns, name) {
+    if let Some(column) = columns.find(name) {
         defs.push(def_of(alloc, ColumnKind::Partition, false, column)?)?;
     }
     Ok(())
@@ -50,7 +51,7 @@ fn partition_defs_of(alloc: Global, outline: &Outline) -> Result<Items<ColumnDef
 {
     let mut defs = Items::new(alloc);
     for name in outline.partition() {
-        add_partition_def(&mut defs, alloc, outline.columns.as_slice(), name)?;
+        add_partition_def(&mut defs, alloc, &outline.columns, name)?;
     }
     Ok(defs)
 }
@@ -71,12 +72,12 @@ fn add_clustering_def(
     defs: &mut Items<ColumnDef>,
     alloc: Global,
     options: &[TableOption],
-    columns: &[ColumnItem],
+    columns: &ColumnItems,
     name: &Text,
 ) -> Result<(), AllocError>
     ensures { OnOk result (defs.new ≡ defs.old ++ clustering_def options.now columns.now name.now) }
 {
-    if let Some(column) = column_in(columns, name) {
+    if let Some(column) = columns.find(name) {
         defs.push(clustering_item_of(alloc, options, column)?)?;
     }
     Ok(())
@@ -92,7 +93,7 @@ fn with_clustering(
     ensures { IfOk result (λ all. all ≡ defs ++ clustering_defs options.now outline.now) }
 {
     for name in outline.clustering() {
-        add_clustering_def(&mut defs, alloc, options, outline.columns.as_slice(), name)?;
+        add_clustering_def(&mut defs, alloc, options, &outline.columns, name)?;
     }
     Ok(defs)
 }

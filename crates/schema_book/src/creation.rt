@@ -29,21 +29,21 @@ pub(crate) fn existing(if_not_exists: bool) -> Option<Fault>
 }
 
 /// What is wrong with a table's columns and its key.
-pub(crate) fn key_fault(outline: &Outline) -> Option<Fault>
-    ensures { result ≡ key_fault_of outline.now }
+pub(crate) fn key_fault(alloc: Global, outline: &Outline) -> Result<Option<Fault>, AllocError>
+    ensures { IfOk result (λ fault. fault ≡ key_fault_of outline.now) }
 {
-    let columns = outline.columns.as_slice();
+    let columns = &outline.columns;
     let keys = outline.keys.as_slice();
-    if defines_twice(columns) || some_twice(keys) {
-        return Some(Fault::DuplicateColumn);
+    if defines_twice(alloc, columns.as_slice())? || some_twice(alloc, keys)? {
+        return Ok(Some(Fault::DuplicateColumn));
     }
     if keys.len() != 1 {
-        return Some(Fault::NoKey);
+        return Ok(Some(Fault::NoKey));
     }
     if some_unknown(columns, keys) {
-        return Some(Fault::KeyColumnUnknown);
+        return Ok(Some(Fault::KeyColumnUnknown));
     }
-    None
+    Ok(None)
 }
 
 pub(crate) fn size_fault(outline: &Outline) -> Option<Fault>

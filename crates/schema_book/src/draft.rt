@@ -1,18 +1,21 @@
 //! Keyspaces and tables, as statements make them one after another.
 
-ghost use Rattle.std.specs.Prelude.{◌≡◌, Some, IfOk, option_copied};
+ghost use Rattle.std.specs.Prelude.{◌≡◌, Some, IfOk, OnOk, option_copied};
 
 use crate::creation::{
     existing, key_fault, option_fault, script_keyspace, script_table, size_fault, table_of,
 };
 use crate::error::{Fault, Refused, SchemaError};
+use crate::keyspaces::Keyspaces;
 use crate::outline::Outline;
 use crate::replication::factor_in;
 use crate::table::{Keyspace, Table};
+use crate::tables::Tables;
 use cql_statement::{CreateKeyspace, CreateTable, Statement, Statements, TableName};
-use cs_base::{Items, Text};
+use cs_base::Text;
 use std::alloc::{AllocError, Global};
 use std::marker::Model;
+use std::mem;
 
 /// Most tables of a schema.
 const MOST_TABLES: usize = 1_024;
@@ -20,8 +23,8 @@ const MOST_TABLES: usize = 1_024;
 /// Keyspaces and tables, in the order in which they were made.
 #[derive(Drop)]
 pub(crate) struct Draft {
-    pub keyspaces: Items<Keyspace>,
-    pub tables: Items<Table>,
+    pub keyspaces: Keyspaces,
+    pub tables: Tables,
 }
 
 impl Model for Draft {
@@ -33,32 +36,47 @@ impl Model for Draft {
 }
 
 impl Draft {
-    ghost use Rattle.schema_book.specs.Books.{first_book, keyspace_at, table_at};
+    ghost use Rattle.schema_book.specs.Books.{first_book, keyspace_at, table_at, with_keyspace, with_table};
 
     fn first(alloc: Global, factor: u8, grace: u64) -> Result<Draft, AllocError>
         ensures { IfOk result (λ draft. draft ≡ first_book factor grace) }
     {
-        let mut keyspaces = Items::new(alloc);
-        keyspaces.push(script_keyspace(alloc, factor)?)?;
-        let mut tables = Items::new(alloc);
-        tables.push(script_table(alloc, factor, grace)?)?;
-        Ok(Draft { keyspaces, tables })
+        let keyspace = script_keyspace(alloc, factor)?;
+        let table = script_table(alloc, factor, grace)?;
+        Ok(Draft {
+            keyspaces: Keyspaces::new(alloc).with(alloc, keyspace)?,
+            tables: Tables::new(alloc).with(alloc, table)?,
+        })
     }
 
     fn table(&self, keyspace: &str, name: &str) -> Option<&Table>
         ensures { option_copied result ≡ table_at self.now keyspace.now name.now }
     {
-        self.tables.as_slice().iter().find(|table| table.keyspace.as_str() == keyspace
-            && table.name.as_str() == name)
+        self.tables.find(keyspace, name)
     }
 
     fn keyspace(&self, name: &str) -> Option<&Keyspace>
         ensures { option_copied result ≡ keyspace_at self.now name.now }
     {
-        self.keyspaces
-            .as_slice()
-            .iter()
-            .find(|keyspace| keyspace.name.as_str() == name)
+        self.keyspaces.find(name)
+    }
+
+    /// Adds a keyspace. An `Err` leaves the draft without keyspaces.
+    fn push_keyspace(&mut self, alloc: Global, keyspace: Keyspace) -> Result<(), AllocError>
+        ensures { OnOk result (self.new ≡ with_keyspace self.old keyspace) }
+    {
+        let keyspaces = mem::replace(&mut self.keyspaces, Keyspaces::new(alloc));
+        self.keyspaces = keyspaces.with(alloc, keyspace)?;
+        Ok(())
+    }
+
+    /// Adds a table. An `Err` leaves the draft without tables.
+    fn push_table(&mut self, alloc: Global, table: Table) -> Result<(), AllocError>
+        ensures { OnOk result (self.new ≡ with_table self.old table) }
+    {
+        let tables = mem::replace(&mut self.tables, Tables::new(alloc));
+        self.tables = tables.with(alloc, table)?;
+        Ok(())
     }
 }
 
@@ -128,7 +146,7 @@ impl Draft {
             return Ok(Some(fault));
         }
         let table = table_of(alloc, grace, create, outline, keyspace, number)?;
-        self.tables.push(table)?;
+        self.push_table(alloc, table)?;
         Ok(None)
     }
 
@@ -162,7 +180,7 @@ impl Draft {
         ensures { IfOk result (λ fault. new_table grace self.old create.now ≡ verdict self.new fault) }
     {
         let outline = Outline::of(alloc, create.items.as_slice())?;
-        if let Some(fault) = key_fault(&outline) {
+        if let Some(fault) = key_fault(alloc, &outline)? {
             return Ok(Some(fault));
         }
         match self.copy_keyspace(alloc, &create.table.keyspace)? {
@@ -198,7 +216,7 @@ impl Draft {
             return Ok(Some(Fault::BadReplication));
         };
         let name = create.name.copy(alloc)?;
-        self.keyspaces.push(Keyspace { name, factor })?;
+        self.push_keyspace(alloc, Keyspace { name, factor })?;
         Ok(None)
     }
 

@@ -1,15 +1,16 @@
-//! Where tables stand, by keyspace and name.
+//! Where names stand in a list.
 
-ghost use Rattle.std.specs.Prelude.{◌≡◌, IfOk, OnOk, option_copied};
+ghost use Rattle.std.specs.Prelude.{◌≡◌, IfOk, OnOk, None};
 ghost use Rattle.std.specs.BTreeMap.{get_by_text};
-ghost use Rattle.schema_book.specs.Places.{Enters, EntersTable, IsIndexOf, TakesOut, place_of};
+ghost use Rattle.schema_book.specs.Places.{Enters};
+ghost use Rattle.schema_book.specs.Indexes.{EntersTable, TakesOut, place_of};
 
 use crate::table::Table;
 use cs_base::Text;
 use std::alloc::{AllocError, Global};
 use std::collections::BTreeMap;
 
-/// The places of a keyspace's tables, or of a table's columns, by name.
+/// The places of keyspaces, of a keyspace's tables, or of a table's columns, by name.
 #[derive(Debug, Drop)]
 pub(crate) struct Names {
     pub places: BTreeMap<String, usize>,
@@ -22,6 +23,15 @@ pub(crate) struct Index {
 }
 
 impl Names {
+    /// No names.
+    pub(crate) fn new(alloc: Global) -> Names
+        ensures { (q : _) → get_by_text result.places q ≡ None }
+    {
+        Names {
+            places: BTreeMap::new(alloc),
+        }
+    }
+
     /// Adds the place of a name, unless it has one.
     pub(crate) fn enter(
         mut self,
@@ -48,20 +58,32 @@ impl Names {
 }
 
 impl Index {
+    /// No tables.
+    pub(crate) fn new(alloc: Global) -> Index
+        ensures { (keyspace name : _) → place_of result keyspace name ≡ None }
+    {
+        Index {
+            keyspaces: BTreeMap::new(alloc),
+        }
+    }
+
     /// The names of a keyspace, which it loses.
     fn take_out(&mut self, alloc: Global, keyspace: &Text) -> Names
         ensures { TakesOut self.old keyspace.now self.new result }
     {
         match self.keyspaces.remove(keyspace.as_str()) {
             Some(names) => names,
-            None => Names {
-                places: BTreeMap::new(alloc),
-            },
+            None => Names::new(alloc),
         }
     }
 
     /// Adds the place of a table, unless its names have one.
-    fn enter(&mut self, alloc: Global, table: &Table, place: usize) -> Result<(), AllocError>
+    pub(crate) fn enter(
+        &mut self,
+        alloc: Global,
+        table: &Table,
+        place: usize,
+    ) -> Result<(), AllocError>
         ensures { OnOk result (EntersTable self.old table.now place self.new) }
     {
         let names = self.take_out(alloc, &table.keyspace);
@@ -69,21 +91,6 @@ impl Index {
         let keyspace = String::from_str(alloc, table.keyspace.as_str())?;
         self.keyspaces.insert(keyspace, names)?;
         Ok(())
-    }
-
-    /// The places of these tables.
-    pub(crate) fn of(alloc: Global, tables: &[Table]) -> Result<Index, AllocError>
-        ensures { IfOk result (λ index. IsIndexOf tables.now index tables.now) }
-    {
-        let mut index = Index {
-            keyspaces: BTreeMap::new(alloc),
-        };
-        let mut place = 0;
-        for table in tables {
-            index.enter(alloc, table, place)?;
-            place += 1;
-        }
-        Ok(index)
     }
 
     /// The place of the table of these names.

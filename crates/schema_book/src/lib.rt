@@ -2,11 +2,13 @@
 #![tactic(auto)]
 
 mod column_defs;
+mod column_items;
 mod columns;
 mod creation;
 mod draft;
 mod error;
 mod index;
+mod keyspaces;
 mod laws;
 mod names;
 mod options;
@@ -14,6 +16,7 @@ mod outline;
 mod replication;
 mod schema;
 mod table;
+mod tables;
 
 pub use column_defs::ColumnDefs;
 pub use error::{Fault, Refused, SchemaError};

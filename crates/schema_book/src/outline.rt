@@ -1,18 +1,20 @@
 //! What stands between the parentheses of CREATE TABLE.
 
-ghost use Rattle.std.specs.Prelude.{◌≡◌, ◌++◌, ◌∷◌, [], OnOk, IfOk, option_copied};
-ghost use Rattle.schema_book.specs.Outlines.{item_columns, item_keys, column_keys, outline_of, columns_in, keys_in, clustering_in, partition_in, column_in as column_in_of, times_defined as times_defined_of, defines_twice as defines_twice_of, names_twice as names_twice_of, share as share_names, has_unknown as has_unknown_name, is_column as is_column_of, names_unknown as names_unknown_of, is_uuid as is_uuid_of_type, is_uuid_of as is_uuid_among, some_twice as some_twice_of, some_unknown as some_unknown_of, has_uuid as has_uuid_among};
+ghost use Rattle.std.specs.Prelude.{◌≡◌, ◌++◌, ◌∷◌, [], map, OnOk, IfOk};
+ghost use Rattle.schema_book.specs.Outlines.{item_columns, item_keys, column_keys, outline_of, columns_in, keys_in, clustering_in, partition_in, name_of, defines_twice as defines_twice_of, names_twice as names_twice_of, has_unknown as has_unknown_name, names_unknown as names_unknown_of, is_uuid as is_uuid_of_type, is_uuid_of as is_uuid_among, some_twice as some_twice_of, some_unknown as some_unknown_of, has_uuid as has_uuid_among};
 
-use crate::names::{copy_names, has_twice, is_among};
+use crate::column_items::ColumnItems;
+use crate::names::{copy_names, has_twice, is_among, push_names};
 use cql_statement::{ColumnItem, KeyItem, Names, TableItem};
 use cql_values::CqlType;
 use cs_base::{Items, Text};
 use std::alloc::{AllocError, Global};
+use std::mem;
 
 /// The columns and the keys of a table, as they stand.
 #[derive(Drop)]
 pub(crate) struct Outline {
-    pub columns: Items<ColumnItem>,
+    pub columns: ColumnItems,
     pub keys: Items<KeyItem>,
 }
 
@@ -52,7 +54,8 @@ impl Outline {
         ensures columns { OnOk result (self.new.columns ≡ self.old.columns ++ column.now ∷ []) }
         ensures keys { OnOk result (self.new.keys ≡ self.old.keys ++ column_keys column.now) }
     {
-        self.columns.push(copy_column(alloc, column)?)?;
+        let columns = mem::replace(&mut self.columns, ColumnItems::new(alloc));
+        self.columns = columns.with(alloc, copy_column(alloc, column)?)?;
         if column.is_primary_key {
             self.keys.push(lone_key(alloc, &column.name)?)?;
         }
@@ -74,7 +77,7 @@ impl Outline {
         ensures { IfOk result (λ outline. outline ≡ outline_of items.now) }
     {
         let mut outline = Outline {
-            columns: Items::new(alloc),
+            columns: ColumnItems::new(alloc),
             keys: Items::new(alloc),
         };
         for item in items {
@@ -104,73 +107,53 @@ impl Outline {
     }
 }
 
-/// The column of this name.
-pub(crate) fn column_in<'a>(columns: &'a [ColumnItem], name: &Text) -> Option<&'a ColumnItem>
-    ensures { option_copied result ≡ column_in_of columns.now name.now }
+fn column_names(alloc: Global, columns: &[ColumnItem]) -> Result<Names, AllocError>
+    ensures { IfOk result (λ names. names ≡ map name_of columns.now) }
 {
-    columns
-        .iter()
-        .find(|column| column.name.as_str() == name.as_str())
-}
-
-fn is_column(columns: &[ColumnItem], name: &Text) -> bool
-    ensures { result ≡ is_column_of columns.now name.now }
-{
-    columns
-        .iter()
-        .any(|column| column.name.as_str() == name.as_str())
-}
-
-/// How often a column of this name is defined.
-fn times_defined(columns: &[ColumnItem], name: &Text) -> usize
-    ensures { result ≡ times_defined_of columns.now name.now }
-{
-    columns
-        .iter()
-        .filter(|column| column.name.as_str() == name.as_str())
-        .count()
+    let mut names = Items::new(alloc);
+    for column in columns {
+        names.push(column.name.copy(alloc)?)?;
+    }
+    Ok(names)
 }
 
 /// Whether a column is defined twice.
-pub(crate) fn defines_twice(columns: &[ColumnItem]) -> bool
-    ensures { result ≡ defines_twice_of columns.now }
+pub(crate) fn defines_twice(alloc: Global, columns: &[ColumnItem]) -> Result<bool, AllocError>
+    ensures { IfOk result (λ twice. twice ≡ defines_twice_of columns.now) }
 {
-    columns
-        .iter()
-        .any(|column| times_defined(columns, &column.name) > 1)
-}
-
-/// Whether the two have a name in common.
-fn share(names: &[Text], others: &[Text]) -> bool
-    ensures { result ≡ share_names names.now others.now }
-{
-    names.iter().any(|name| is_among(name, others))
+    let names = column_names(alloc, columns)?;
+    has_twice(alloc, names.as_slice())
 }
 
 /// Whether a key names a column twice.
-fn names_twice(key: &KeyItem) -> bool
-    ensures { result ≡ names_twice_of key.now }
+fn names_twice(alloc: Global, key: &KeyItem) -> Result<bool, AllocError>
+    ensures { IfOk result (λ twice. twice ≡ names_twice_of key.now) }
 {
-    let partition = key.partition.as_slice();
-    let clustering = key.clustering.as_slice();
-    has_twice(partition) || has_twice(clustering) || share(partition, clustering)
+    let mut names = copy_names(alloc, key.partition.as_slice())?;
+    push_names(&mut names, alloc, key.clustering.as_slice())?;
+    has_twice(alloc, names.as_slice())
 }
 
 /// Whether some key names a column twice.
-pub(crate) fn some_twice(keys: &[KeyItem]) -> bool
-    ensures { result ≡ some_twice_of keys.now }
+pub(crate) fn some_twice(alloc: Global, keys: &[KeyItem]) -> Result<bool, AllocError>
+    ensures { IfOk result (λ twice. twice ≡ some_twice_of keys.now) }
 {
-    keys.iter().any(|key| names_twice(key))
+    for key in keys {
+        if names_twice(alloc, key)? {
+            return Ok(true);
+        }
+    }
+    Ok(false)
 }
 
-fn has_unknown(columns: &[ColumnItem], names: &[Text]) -> bool
+fn has_unknown(columns: &ColumnItems, names: &[Text]) -> bool
     ensures { result ≡ has_unknown_name columns.now names.now }
 {
-    names.iter().any(|name| !is_column(columns, name))
+    names.iter().any(|name| !columns.has(name))
 }
 
 /// Whether a key names a column that is not defined.
-fn names_unknown(columns: &[ColumnItem], key: &KeyItem) -> bool
+fn names_unknown(columns: &ColumnItems, key: &KeyItem) -> bool
     ensures { result ≡ names_unknown_of columns.now key.now }
 {
     has_unknown(columns, key.partition.as_slice())
@@ -178,7 +161,7 @@ fn names_unknown(columns: &[ColumnItem], key: &KeyItem) -> bool
 }
 
 /// Whether some key names a column that is not defined.
-pub(crate) fn some_unknown(columns: &[ColumnItem], keys: &[KeyItem]) -> bool
+pub(crate) fn some_unknown(columns: &ColumnItems, keys: &[KeyItem]) -> bool
     ensures { result ≡ some_unknown_of columns.now keys.now }
 {
     keys.iter().any(|key| names_unknown(columns, key))

@@ -1,12 +1,12 @@
 use Rattle.std.proofs.Common.{List, subst}
 use Rattle.peer_messages.specs.declared.chronicle.Entry.{Entry}
 use Rattle.chronicle_print.specs.Printed.{IsInPrint}
-use Rattle.cluster_program.proofs.RunLaws.{in_print, if_ok_more}
+use Rattle.cluster_program.proofs.RunLaws.{in_print}
 use Rattle.cluster_program.proofs.run.run.Goals as goal
 
 pub returns : goal.returns
 returns g c =
-    if_ok_more c.print_chronicle.result c.print_chronicle.ensures (λ text is.
+    let text = c.in_ok-text.text in
     in_print c.args.script.now text.items c.tables.result.now c.in_ok-setting_of.field-0 c.in_ok-cluster.cluster c.play.new.cluster c.as_slice.result.now c.in_ok-play.ensures.keeps c.in_ok-setting_of.ensures c.in_ok-cluster.ensures c.as_slice.ensures c.tables.ensures
     c.in_ok-play.ensures.plays c.chronicle.ensures.reached c.chronicle.ensures.right
-    (subst (λ (es : List Entry). IsInPrint c.tables.result.now es text.items) c.chronicle.ensures.entries is))
+    (subst (λ (es : List Entry). IsInPrint c.tables.result.now es text.items) c.chronicle.ensures.entries c.in_ok-text.ensures)

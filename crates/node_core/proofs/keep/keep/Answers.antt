@@ -46,3 +46,6 @@ returns-in-Err-clause-surely g c = λ told all. err_not_ok c.commit.result _ c.i
 
 pub returns-in-Err-clause-spared : goal.returns-in-Err-clause-spared
 returns-in-Err-clause-spared g c = λ all n. (c.commit.ensures.surely (n + 4) n (omega arith) ((c.room.ensures.surely all).1 (n + 4))).1
+
+pub returns-in-Ok-clause-room : goal.returns-in-Ok-clause-room
+returns-in-Ok-clause-room g c = λ honest some. (c.in_ok-room.ensures.short, c.in_ok-room.ensures.small honest)

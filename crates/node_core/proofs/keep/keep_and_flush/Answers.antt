@@ -44,3 +44,6 @@ returns-in-Err-clause-surely g c = λ told all.
 
 pub returns-in-Err-clause-spared : goal.returns-in-Err-clause-spared
 returns-in-Err-clause-spared g c = λ all. (c.flush.ensures.surely ((c.room.ensures.surely all).1)).1
+
+pub returns-in-Ok-clause-room : goal.returns-in-Ok-clause-room
+returns-in-Ok-clause-room g c = λ honest some. (c.in_ok-room.ensures.short, c.in_ok-room.ensures.small honest)

@@ -9,6 +9,6 @@ pub returns-in-Err-clause-err : goal.returns-in-Err-clause-err
 returns-in-Err-clause-err c =
     known_undone c.args.self.now c.undo.new.requests.entries c.begin-2.new.requests.entries
     (c.undo.ensures.entries
-    ∙ ap (λ (xs : List (ReqId × OpenWrite)). without_begun c.args.request c.in_ok-write.write.began xs) c.in_ok-write.ensures.entries
-    ∙ close_slot c.args.request c.args.write c.in_ok-write.write c.args.self.now.writes.entries c.requires.write c.in_ok-write.ensures.rest)
+    ∙ ap (λ (xs : List (ReqId × OpenWrite)). without_begun c.args.request c.in_ok-began.began xs) c.in_ok-began.ensures.entries
+    ∙ close_slot c.args.request c.args.write.now c.in_ok-began.began c.begin.new.slot c.args.self.now.writes.entries c.requires.write c.in_ok-began.ensures.rest)
     c.in-Err.ensures.err

@@ -2,7 +2,7 @@ use Rattle.std.proofs.Common.{◌≡◌, ℕ, cond, List, Some, None, sym, ap, �
 use Rattle.std.specs.Str.{bytes_eq}
 use Rattle.std.specs.BTreeMap.{get_by_text}
 use Rattle.std.proofs.lemmas.Map.Text.{btree_map_updates_text}
-use Rattle.schema_book.specs.Places.{place_named}
+use Rattle.schema_book.specs.Indexes.{place_named}
 use Rattle.schema_book.proofs.index.Index.take_out.Goals as goal
 
 pub returns-in-Some : goal.returns-in-Some

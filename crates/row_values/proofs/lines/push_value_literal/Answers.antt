@@ -1,0 +1,8 @@
+use Rattle.row_values.proofs.TextLaws.{one_more}
+use Rattle.std.proofs.Common.{refl}
+use Rattle.row_values.proofs.lines.push_value_literal.Goals as goal
+
+pub returns : goal.returns
+returns c =
+    one_more c.args.value.now c.args.literals.now (record { text = c.push_value.new.out; spans = c.args.literals.now.spans }) c.end.new.self c.text_len-start.result c.text_len-start.ensures
+    c.in_ok-push_value.ensures refl c.in_ok-end.ensures.text c.in_ok-end.ensures.spans
