@@ -116,6 +116,7 @@ fn parts_of<R: MemReplica>(
         annals: Annals {
             mail: Mail::new(alloc)?,
             pieces: Vec::new(alloc),
+            spare: Vec::new(alloc),
         },
     })
 }

@@ -127,6 +127,7 @@ fn tell_at<R: MemReplica>(
 
 impl<R: MemReplica> Parts<R> {
     /// The event comes to the node. An error leaves all as it was.
+    #[inline(always)]
     pub fn take(&mut self, alloc: Global, node: NodeId, what: What) -> Result<(), AllocError>
         requires holds { Holds (keeper R.stands_for R.durable R.disk R.is_whole) self.old }
         requires sent { WasSent (post_of self.old.annals.mail).sent node what }

@@ -3,9 +3,10 @@
 ghost use Rattle.std.specs.Prelude.{◌≡◌, ◌≤◌, ℕ, List, map, IfOk, option_copied};
 ghost use Rattle.cql_statement.specs.declared.statement.Statement.{Statement as statement_value};
 ghost use Rattle.fault_script.specs.Script.{IsOneStatement, IsSaid};
-ghost use Rattle.cluster_program.specs.Requests.{table_setting, setting_of as setting_of_script, put_statement, get_statement, asked_of, AsksFor, AsksAt, IsEventOf};
+ghost use Rattle.cluster_program.specs.Requests.{table_setting, setting_of as setting_of_script, asked_of, IsAskedBy, AsksAt, AsksBy, IsEventOf};
+ghost use Rattle.cluster_program.specs.Lines.{ArePrepared, HasKv, IsEventBy};
 
-use crate::statements::{statement_of_get, statement_of_put};
+use crate::statements::{LineStatements, get_values, put_values, text_is_read, timestamp_is_read};
 use cluster_model::ClusterEvent;
 use cql_parser::{ParseError, parse};
 use cql_statement::Statement;
@@ -13,7 +14,7 @@ use cs_base::{Items, Level, Micros, NodeId};
 use fault_script::{CqlRequest, GetRequest, PutRequest, Script, ScriptEvent};
 use peer_messages::{Ask, Plan, Setting, TableSetting, TableSettings};
 use schema_book::{Schema, Table};
-use statement_binder::{BindError, bind};
+use statement_binder::{BindError, Values, bind, fill};
 use statement_plan::{Fault, Feature};
 use statement_values::Params;
 use std::alloc::{AllocError, Global};
@@ -59,21 +60,43 @@ fn asked(plan: statement_plan::Plan) -> Plan
     }
 }
 
-/// What a node is asked for a statement, in a schema and with a keyspace in use.
-fn plan_of(
-    alloc: Global,
-    schema: &Schema,
-    keyspace: Option<&str>,
-    statement: &Statement,
-) -> Result<Plan, AllocError>
-    ensures { IfOk result (λ plan. AsksFor schema.now (option_copied keyspace.entry) statement.now plan) }
+/// What a node is asked for a statement that was bound.
+fn asked_by(bound: Result<statement_plan::Plan, BindError>) -> Result<Plan, AllocError>
+    ensures { IfOk result (IsAskedBy bound) }
 {
-    let no_values = Params::ByPlace(Items::new(alloc));
-    match bind(alloc, schema, keyspace, statement, &no_values, None) {
+    match bound {
         Ok(plan) => Ok(asked(plan)),
         Err(BindError::Refused(fault)) => Ok(Plan::Invalid(fault)),
         Err(BindError::NoMemory) => Err(AllocError),
     }
+}
+
+/// What is asked of a node, at a level.
+fn ask_by(
+    bound: Result<statement_plan::Plan, BindError>,
+    node: NodeId,
+    level: Level,
+) -> Result<ClusterEvent, AllocError>
+    ensures { IfOk result (AsksBy bound node level) }
+{
+    let plan = asked_by(bound)?;
+    Ok(ClusterEvent::Ask(node, Ask { plan, level }))
+}
+
+/// What a node is asked for a statement, at a level.
+fn ask_for(
+    alloc: Global,
+    schema: &Schema,
+    keyspace: Option<&str>,
+    node: NodeId,
+    level: Level,
+    statement: &Statement,
+) -> Result<ClusterEvent, AllocError>
+    ensures { IfOk result (AsksAt schema.now (option_copied keyspace.entry) node level statement.now) }
+{
+    let no_values = Params::ByPlace(Items::new(alloc));
+    let bound = bind(alloc, schema, keyspace, statement, &no_values, None);
+    ask_by(bound, node, level)
 }
 
 /// The statement of a line `cql`, whose text was read as one before.
@@ -86,21 +109,6 @@ fn statement_of(alloc: Global, text: &str) -> Result<Statement, AllocError>
         Err(ParseError::NoMemory) => Err(AllocError),
         Err(_) => unreachable!(),
     }
-}
-
-/// What a node is asked for a statement, at a level.
-fn ask_for(
-    alloc: Global,
-    schema: &Schema,
-    keyspace: Option<&str>,
-    node: NodeId,
-    level: Level,
-    statement: Statement,
-) -> Result<ClusterEvent, AllocError>
-    ensures { IfOk result (AsksAt schema.now (option_copied keyspace.entry) node level statement) }
-{
-    let plan = plan_of(alloc, schema, keyspace, &statement)?;
-    Ok(ClusterEvent::Ask(node, Ask { plan, level }))
 }
 
 fn cql_event(
@@ -119,47 +127,56 @@ fn cql_event(
         keyspace,
         request.node,
         request.level,
-        statement,
+        &statement,
     )
 }
 
 fn put_event(
     alloc: Global,
-    schema: &Schema,
-    keyspace: Option<&str>,
+    lines: &LineStatements,
     put: &PutRequest,
 ) -> Result<ClusterEvent, AllocError>
-    ensures { IfOk result (IsEventOf schema.now (option_copied keyspace.entry) (ScriptEvent.Put put.now)) }
+    ensures { IfOk result (IsEventBy lines.now (ScriptEvent.Put put.now)) }
 {
-    let statement = statement_of_put(alloc, put)?;
-    ask_for(alloc, schema, keyspace, put.node, put.level, statement)
+    timestamp_is_read(put);
+    text_is_read(put.value.as_str());
+    text_is_read(put.key.as_str());
+    text_is_read(put.row.as_str());
+    let values = put_values(alloc, put)?;
+    let bound = fill(alloc, &lines.put, Values::Whole(&values), None);
+    ask_by(bound, put.node, put.level)
 }
 
 fn get_event(
     alloc: Global,
-    schema: &Schema,
-    keyspace: Option<&str>,
+    lines: &LineStatements,
     get: &GetRequest,
 ) -> Result<ClusterEvent, AllocError>
-    ensures { IfOk result (IsEventOf schema.now (option_copied keyspace.entry) (ScriptEvent.Get get.now)) }
+    ensures { IfOk result (IsEventBy lines.now (ScriptEvent.Get get.now)) }
 {
-    let statement = statement_of_get(alloc, get)?;
-    ask_for(alloc, schema, keyspace, get.node, get.level, statement)
+    text_is_read(get.key.as_str());
+    let values = get_values(alloc, get)?;
+    let bound = fill(alloc, &lines.get, Values::Whole(&values), None);
+    ask_by(bound, get.node, get.level)
 }
 
-/// What a line does to the cluster, in a schema and with a keyspace in use.
+/// What a line does to the cluster, in a schema and with a keyspace in use. `lines` are the statements of `put` and `get`,
+/// prepared in this schema.
 pub fn event_of(
     alloc: Global,
     schema: &Schema,
+    lines: &LineStatements,
     keyspace: Option<&str>,
     line: &ScriptEvent,
 ) -> Result<ClusterEvent, AllocError>
-    requires { IsSaid line.now }
+    requires said { IsSaid line.now }
+    requires kv { HasKv schema.now }
+    requires prepared { ArePrepared schema.now lines.now }
     ensures { IfOk result (IsEventOf schema.now (option_copied keyspace.entry) line.now) }
 {
     match line {
-        ScriptEvent::Put(put) => put_event(alloc, schema, keyspace, put),
-        ScriptEvent::Get(get) => get_event(alloc, schema, keyspace, get),
+        ScriptEvent::Put(put) => put_event(alloc, lines, put),
+        ScriptEvent::Get(get) => get_event(alloc, lines, get),
         ScriptEvent::Cql(request) => cql_event(alloc, schema, keyspace, request),
         ScriptEvent::Deliver(place) => Ok(ClusterEvent::Deliver(
             place.from,

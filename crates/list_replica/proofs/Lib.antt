@@ -1,4 +1,5 @@
 mod Arriving
+mod Bounds
 mod Coming
 mod Gathering
 mod Growing
@@ -6,6 +7,7 @@ mod Items
 mod Keeping
 mod Leaving
 mod Listing
+mod Loading
 mod Looking
 mod Refusing
 mod Replaying

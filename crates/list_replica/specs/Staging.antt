@@ -70,13 +70,21 @@ AreReady contents staged = (s : Staged) → Contains staged s → IsReadyAt cont
 abbrev pub held_at : Map → Partition → List Held
 held_at contents p = map held_of (stored_at contents p)
 
--- with these, what is held of the partition has at most 16 MiB as it is stored
+-- the content of both has at most 16 MiB as it is stored
+abbrev pub IsMergedWithin : List Held → List Held → Type 0
+IsMergedWithin held changes = (merged : List Held) → IsMergeOf merged held changes → AreInOrder merged → changes_length merged ≤ 2 ^ 24
+
+-- or it has more
+abbrev pub IsMergedPast : List Held → List Held → Type 0
+IsMergedPast held changes = (merged : List Held) → IsMergeOf merged held changes → AreInOrder merged → 2 ^ 24 < changes_length merged
+
+-- with these, what is held of the partition has at most 16 MiB
 abbrev pub IsWithin : Map → Staged → Type 0
-IsWithin contents s = (merged : List Held) → IsMergeOf merged (held_at contents s.partition) s.changes → AreInOrder merged → changes_length merged ≤ 2 ^ 24
+IsWithin contents s = IsMergedWithin (held_at contents s.partition) s.changes
 
 -- or it has more
 abbrev pub IsPast : Map → Staged → Type 0
-IsPast contents s = (merged : List Held) → IsMergeOf merged (held_at contents s.partition) s.changes → AreInOrder merged → 2 ^ 24 < changes_length merged
+IsPast contents s = IsMergedPast (held_at contents s.partition) s.changes
 
 pub record StaysWithin (contents : Map) (staged : List Staged) (p : Partition) : Type 0 where
   pub changes : Staged

@@ -7,14 +7,16 @@ ghost use Rattle.changes.specs.declared.Held.{Held as held_value};
 ghost use Rattle.changes.specs.declared.Partition.{Partition as partition_value};
 ghost use Rattle.changes.specs.Contents.{IsContent};
 ghost use Rattle.changes.specs.Order.{partition_cmp};
+ghost use Rattle.partition_content.specs.Partition.{changes_in, IsReadyFor};
 ghost use Rattle.durable_state.specs.Taking.{InOne};
 ghost use Rattle.list_replica.specs.Stores.{all_of, IsReadyAt};
-ghost use Rattle.list_replica.specs.Staging.{mutation_of as mutation_in_item, mutations, Brings, IsStagedAt, StagesAt, IsStaging, AreOnce, AreReady, IsWithin, IsPast, StaysWithin, GrowsPast, AllStayWithin, IsFirstPast, Comes, AllCome};
+ghost use Rattle.list_replica.specs.Staging.{mutation_of as mutation_in_item, mutations, Brings, IsStagedAt, StagesAt, IsStaging, AreOnce, AreReady, IsMergedWithin, IsMergedPast, IsWithin, IsPast, StaysWithin, GrowsPast, AllStayWithin, IsFirstPast, Comes, AllCome};
 
 use crate::contents::{Contents, reserve, take_in};
 use cell_merge::Content;
-use changes::{Held, Mutation, Partition};
+use changes::{Held, Mutation, Partition, encoded_length};
 use cs_base::Micros;
+use partition_content::PartitionContent;
 use row_change::LogItem;
 use std::alloc::{AllocError, Global};
 
@@ -145,6 +147,22 @@ pub fn reserve_all(
     Ok(())
 }
 
+/// Whether a content stays within 16 MiB with these changes. Mostly it does with all of them, whatever they take the place of,
+/// which costs no look at the content.
+fn stays_within(content: &PartitionContent, changes: &Content) -> bool
+    requires { IsReadyFor content.now changes.now }
+    ensures within { IsTrue result → IsMergedWithin (changes_in content.now) changes.now }
+    ensures past { result ≡ false → IsMergedPast (changes_in content.now) changes.now }
+{
+    let most = content
+        .encoded_length()
+        .saturating_add(encoded_length(changes.as_slice()));
+    if most <= MAX_CONTENT {
+        return true;
+    }
+    content.length_with(changes) <= MAX_CONTENT
+}
+
 /// Whether what is held of a partition stays within 16 MiB with its changes.
 fn fits(contents: &Contents, staged: &Staged) -> bool
     requires { IsReadyAt contents.now staged.now.partition staged.now.changes }
@@ -152,7 +170,7 @@ fn fits(contents: &Contents, staged: &Staged) -> bool
     ensures past { result ≡ false → IsPast contents.now staged.now }
 {
     match contents.get(&staged.partition) {
-        Some(content) => content.length_with(&staged.changes) <= MAX_CONTENT,
+        Some(content) => stays_within(content, &staged.changes),
         None => true,
     }
 }

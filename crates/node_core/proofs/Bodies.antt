@@ -30,10 +30,9 @@ use Rattle.node_core.specs.declared.base.Base.{Base}
 use Rattle.node_core.specs.declared.slot.Slot.{Slot}
 use Rattle.node_core.specs.declared.hearing.Asker.{Asker}
 use Rattle.node_core.specs.declared.work.Given.{Given}
-use Rattle.node_core.specs.declared.work.Heard.{Heard}
 use Rattle.node_core.specs.declared.work.Work.{Work}
 use Rattle.node_core.specs.Hearing.{Moves, AckMoves, ReplyMoves}
-use Rattle.node_core.specs.Working.{state_at, effects_given, weight_of, weight, BodyFits, IsSlotOf, IsDataAt, IsSound, with_slot}
+use Rattle.node_core.specs.Working.{Heard, state_at, effects_given, weight_of, weight, BodyFits, IsSlotOf, IsDataAt, IsSound, with_slot}
 use Rattle.node_core.specs.Moving.{IsReadFor, TakesBody, AreOf, IsHeard, replies}
 use Rattle.node_core.specs.Slots.{IsNew}
 use Rattle.node_core.proofs.Slots.{some_one}

@@ -217,3 +217,10 @@ moves_none {A} Step id xs slot slot' g none same is sends entries = record {
   back = subst (λ (s : Slot A). IsSlotOf id xs s) (sym same) is;
   new = subst (λ (s : Slot A). IsNew s → IsNew slot) (sym same) (λ h. h);
 }
+
+-- one that the step has not touched, and that is done with by this move
+pub moves_last : {A : Type 0} (Step : A → Move → A → Type 0) (id : ReqId) (xs : List (ReqId × A)) (slot slot' : Slot A) (turn : Move) (a : A) (g : Given) → slot ≡ Untouched → open_at xs id ≡ Some a → Step a turn a → turn.ended ≡ true → slot' ≡ Gone
+    → g.sends ≡ turn.sends → g.entries ≡ turn.entries → Moves Step id xs slot g slot'
+moves_last {A} Step id xs slot slot' turn a g untouched there step ended gone sends entries =
+    subst (λ (s : Slot A). Moves Step id xs s g slot') (sym untouched)
+    (moves_made Step id xs Untouched slot' (record { now = a; is_new = false }) turn a g (opens_before id xs a there) step (gone ∙ ap (λ (b : Bool). slot_after false b a) (sym ended)) sends entries)

@@ -34,11 +34,10 @@ use Rattle.node_core.specs.declared.base.Base.{Base}
 use Rattle.node_core.specs.declared.slot.Slot.{Slot}
 use Rattle.node_core.specs.declared.slot.Slot.TheVariants.{Untouched}
 use Rattle.node_core.specs.declared.work.Given.{Given}
-use Rattle.node_core.specs.declared.work.Heard.{Heard}
 use Rattle.node_core.specs.declared.work.Work.{Work}
 use Rattle.node_core.specs.Slots.{IsNew}
 use Rattle.node_core.specs.Asking.{AsksAs, Begins, IsFresh, MayBegin}
-use Rattle.node_core.specs.Working.{IsDataAt, IsOwn, IsSent, IsSlotOf, IsSound, down_with, effects_given, heard_act, own_acts, own_sent, state_at, weight}
+use Rattle.node_core.specs.Working.{Heard, IsDataAt, IsOwn, IsSent, IsSlotOf, IsSound, down_with, effects_given, heard_act, own_acts, own_sent, state_at, weight}
 use Rattle.node_core.specs.Moving.{AreOf, AskNothing, BeganBefore, CutsIn, CutsOn, EntersQuietly, GoesOn, HasCome, IsAbout, IsCut, IsHeard, IsNewTo, IsSettled, IsWorkedOut, MovesTo, TakesMatter, TakesMatters, MarksAs}
 use Rattle.node_core.proofs.Beginning.{body_light}
 use Rattle.node_core.proofs.Coming.{cut_more, matter_more}

@@ -32,10 +32,9 @@ use Rattle.replica.specs.Calls.{Looked}
 use Rattle.node_core.specs.declared.base.Base.{Base}
 use Rattle.node_core.specs.declared.hearing.Asker.{Asker}
 use Rattle.node_core.specs.declared.work.Given.{Given}
-use Rattle.node_core.specs.declared.work.Heard.{Heard}
 use Rattle.node_core.specs.declared.work.Work.{Work}
 use Rattle.node_core.specs.Hearing.{AckMoves, ReplyMoves}
-use Rattle.node_core.specs.Working.{state_at, effects_given, own_acts, heard_act, own_sent, weight_of, weight, BodyFits, IsDataAt, IsSent, IsSound}
+use Rattle.node_core.specs.Working.{Heard, state_at, effects_given, own_acts, heard_act, own_sent, weight_of, weight, BodyFits, IsDataAt, IsSent, IsSound}
 
 -- By one move the node goes from what the step made so far to w', and this is given. Whatever the changes make of d, the move is
 -- one from the state that those before it make
@@ -111,6 +110,9 @@ TakesBody b w a (ReadReply content) part g w' = ReplyMoves b.setting a.request a
 pub record AreOf (id : ReqId) (xs : List Outbound) : Type 0 where
   pub requests : AllByRecursion (λ (x : Outbound). x.request ≡ id) xs
   pub fit : AllByRecursion (λ (x : Outbound). BodyFits x.body) xs
+
+abbrev pub heard_from : Asker → ℕ → Body → Heard
+heard_from a born body = record { from = a.from; born = born; request = a.request; body = body }
 
 -- a body was heard, and this is given
 pub record IsHeard (b : Base) (honest : Type 0) (d : Durable) (w : Work) (h : Heard) (g : Given) (w' : Work) : Type 0 where

@@ -14,14 +14,13 @@ use Rattle.peer_messages.specs.declared.outcome.Outbound.{Outbound}
 use Rattle.durable_state.specs.State.{Durable}
 use Rattle.node_steps.specs.State.{NodeState}
 use Rattle.node_steps.specs.Effects.{Effects, open_at}
-use Rattle.node_steps.specs.Acts.{Act, Hears}
+use Rattle.node_steps.specs.Acts.{Act, Incoming, Hears}
 use Rattle.node_steps.specs.Steps.{messages_of}
 use Rattle.node_core.specs.declared.base.Base.{Base}
 use Rattle.node_core.specs.declared.slot.Slot.{Slot}
 use Rattle.node_core.specs.declared.slot.Slot.TheVariants.{Untouched, New, Old, Gone}
 use Rattle.node_core.specs.declared.work.Work.{Work}
 use Rattle.node_core.specs.declared.work.Given.{Given}
-use Rattle.node_core.specs.declared.work.Heard.{Heard}
 use Rattle.node_core.specs.Slots.{IsNew}
 
 -- ---- the request that the step is about
@@ -82,6 +81,10 @@ pub record IsSent (me : ℕ) (xs : List Outbound) (w w' : Work) : Type 0 where
   pub queue : w'.queue.items ≡ w.queue.items ++ own_sent me xs
   pub messages : w'.messages ≡ w.messages ++ messages_of me w.time xs
   pub rest : w' ≡ record w { queue = w'.queue; messages = w'.messages }
+
+-- a body that comes to a node, its own ones too
+abbrev pub Heard : Type 0
+Heard = Incoming
 
 abbrev pub heard_act : Heard → Act
 heard_act h = Hears (record { from = h.from; born = h.born; request = h.request; body = h.body })

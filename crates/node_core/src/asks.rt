@@ -64,11 +64,11 @@ impl Given {
     pub(crate) fn tells(alloc: Global, entry: Entry) -> Result<Given, AllocError>
         ensures { IfOk result (TellsEntry entry) }
     {
-        let mut entries = Items::new(alloc);
+        let mut entries = Vec::with_capacity(alloc, 1)?;
         entries.push(entry)?;
         Ok(Given {
             sends: Items::new(alloc),
-            entries,
+            entries: Items::from_vec(entries),
         })
     }
 }

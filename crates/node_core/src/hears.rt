@@ -1,10 +1,12 @@
 //! What a node does with a body that comes to it.
 
-ghost use Rattle.std.specs.Prelude.{◌≡◌, ◌∷◌, ◌++◌, [], None, Some, ℕ, IfOk, IfSome, IsErrOf};
+ghost use Rattle.std.specs.Prelude.{◌≡◌, List, IfOk, IfSome, option_copied};
 ghost use Rattle.std.specs.BTreeMap.{IsOrdered};
-ghost use Rattle.cs_base.specs.Faults.{HasRisen};
+ghost use Rattle.cs_base.specs.declared.ids.ReqId.{ReqId as request_value};
 ghost use Rattle.cs_base.specs.Requests.{request_cmp};
-ghost use Rattle.node_core.specs.Hearing.{IsOpened, AckMoves, ReplyMoves};
+ghost use Rattle.peer_messages.specs.declared.setting.Setting.{Setting as setting_value};
+ghost use Rattle.node_steps.specs.State.{OpenRead};
+ghost use Rattle.node_core.specs.Hearing.{IsOpened, IsLastOpen, AckMoves, ReplyMoves};
 ghost use Rattle.node_core.specs.Working.{IsSlotOf};
 
 use crate::slot::{Found, Slot};
@@ -85,8 +87,44 @@ fn open_read(
     }
 }
 
-/// A reply comes to the open read of a request. Where there is none, nothing happens.
-pub(crate) fn hear_reply(
+/// The open read of a request, which the step has not touched, if the node's reply is the last that it waits for.
+fn last_open<'a>(
+    reads: &'a BTreeMap<ReqId, ReadCoord>,
+    slot: &Slot<ReadCoord>,
+    setting: &Setting,
+    request: &ReqId,
+    from: NodeId,
+) -> Option<&'a ReadCoord>
+    requires ordered { IsOrdered request_cmp reads.now }
+    ensures { IfSome (option_copied result) (IsLastOpen setting.now request.now from reads.now.entries slot.now) }
+{
+    if !slot.is_untouched() {
+        return None;
+    }
+    match reads.get(request) {
+        Some(read) if read.is_last(setting, from) => Some(read),
+        _ => None,
+    }
+}
+
+/// The last reply comes to a read, which is done with. It is not copied.
+fn end_read(
+    read: &ReadCoord,
+    slot: &mut Slot<ReadCoord>,
+    alloc: Global,
+    request: ReqId,
+    from: NodeId,
+    content: Content,
+) -> Result<Given, AllocError>
+    ensures { IfOk result (λ given. (c : setting_value) (xs : List (request_value × OpenRead)) → IsLastOpen c request from xs slot.old read.now → ReplyMoves c request from content xs slot.old given slot.new) }
+{
+    let turn = read.on_last(alloc, request, from, content)?;
+    *slot = Slot::Gone;
+    Ok(Given::of(turn))
+}
+
+/// A reply comes to the open read of a request, which moves. Where there is none, nothing happens.
+fn move_read(
     reads: &BTreeMap<ReqId, ReadCoord>,
     slot: &mut Slot<ReadCoord>,
     alloc: Global,
@@ -106,4 +144,24 @@ pub(crate) fn hear_reply(
     let turn = now.on_reply(alloc, setting, request, from, content)?;
     *slot = Slot::behind(is_new, turn.ended, now);
     Ok(Given::of(turn))
+}
+
+/// A reply comes to the open read of a request. Where there is none, nothing happens.
+pub(crate) fn hear_reply(
+    reads: &BTreeMap<ReqId, ReadCoord>,
+    slot: &mut Slot<ReadCoord>,
+    alloc: Global,
+    setting: &Setting,
+    request: ReqId,
+    from: NodeId,
+    content: Content,
+) -> Result<Given, AllocError>
+    requires ordered { IsOrdered request_cmp reads.now }
+    requires slot { IsSlotOf request reads.now.entries slot.old }
+    ensures ok { IfOk result (λ given. ReplyMoves setting.now request from content reads.now.entries slot.old given slot.new) }
+{
+    match last_open(reads, slot, setting, &request, from) {
+        Some(read) => end_read(read, slot, alloc, request, from, content),
+        None => move_read(reads, slot, alloc, setting, request, from, content),
+    }
 }

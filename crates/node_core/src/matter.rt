@@ -12,14 +12,16 @@ ghost use Rattle.replica.specs.declared.error.CallError.TheVariants as call_erro
 
 use crate::base::Base;
 use crate::fits::{mark_fits, message_fits};
-use crate::hearing::{hear, hear_own};
+use crate::hearing::{Asker, hear, hear_own};
 use crate::slot::Slot;
-use crate::work::{Given, Heard, Work};
-use cs_base::{Items, Micros, NodeId, ReqId};
-use peer_messages::{Message, What, marked};
+use crate::work::{Given, Work};
+use cs_base::{Items, Level, Micros, NodeId, ReqId};
+use peer_messages::{Ask, Message, Plan, What, marked};
 use replica::{CallError, Replica};
+use statement_plan::Fault;
 use std::alloc::{AllocError, Global};
 use std::collections::VecDeque;
+use std::mem;
 
 /// The request that a step is about.
 pub(crate) fn request_of(me: NodeId, time: Micros, what: &What) -> ReqId
@@ -68,59 +70,82 @@ impl Work {
     }
 }
 
-/// Takes a message of another node, unless it does not fit.
+/// Takes a message of another node, unless it does not fit, and moves what it has.
 fn take_message<R: Replica>(
     base: &Base,
     replica: &mut R,
     alloc: Global,
     work: &mut Work,
-    message: Message,
+    message: &mut Message,
 ) -> Result<Given, CallError>
     requires whole { R.is_whole replica.old }
     requires writes { IsOrdered request_cmp base.now.writes }
     requires reads { IsOrdered request_cmp base.now.reads }
     requires fresh { IsFresh work.old }
-    requires request { message.request ≡ work.old.request }
-    ensures ok { IfOk result (λ given. TakesMatters base.now R.Disk.is_honest (R.durable replica.old) work.old (heard_matter base.now.setting base.now.me message) given work.new) }
+    requires request { message.old.request ≡ work.old.request }
+    ensures ok { IfOk result (λ given. TakesMatters base.now R.Disk.is_honest (R.durable replica.old) work.old (heard_matter base.now.setting base.now.me message.old) given work.new) }
     ensures same { IsErrOf result call_error.Failed → work.new ≡ work.old }
     ensures peeks { Peeks R.stands_for (λ r. R.Disk.disk (R.disk r)) R.durable R.log_end (λ r. R.Disk.faults (R.disk r)) (λ r n. R.Disk.spares (R.disk r) n) R.Disk.is_honest replica.old replica.new }
     ensures whole { (IsErrOf result call_error.Failed → ⊥) → R.is_whole replica.new }
     ensures failed { IsErrOf result call_error.Failed → HasRisen (R.Disk.faults (R.disk replica.old)) (R.Disk.faults (R.disk replica.new)) }
     ensures surely { IsErrOf result call_error.Failed → ((n : ℕ) → R.Disk.spares (R.disk replica.old) n) → ⊥ }
 {
-    if !message_fits(&base.setting, base.me, &message) {
+    if !message_fits(&base.setting, base.me, message) {
         return Ok(Given::nothing(alloc));
     }
-    hear(base, replica, alloc, work, Heard::of(message))
+    let asker = Asker {
+        from: message.from,
+        request: message.request,
+    };
+    hear(
+        base,
+        replica,
+        alloc,
+        work,
+        asker,
+        message.born,
+        &mut message.body,
+    )
 }
 
-/// Takes the event's own matter, if it has one.
+/// The client's request, which is moved.
+fn moved(ask: &mut Ask) -> Ask
+    ensures { result ≡ ask.old }
+{
+    let nothing = Ask {
+        plan: Plan::Invalid(Fault::UnknownTable),
+        level: Level::One,
+    };
+    mem::replace(ask, nothing)
+}
+
+/// Takes the event's own matter, if it has one, and moves what it has.
 fn take<R: Replica>(
     base: &Base,
     replica: &mut R,
     alloc: Global,
     work: &mut Work,
-    what: What,
+    what: &mut What,
 ) -> Result<Given, CallError>
     requires whole { R.is_whole replica.old }
     requires writes { IsOrdered request_cmp base.now.writes }
     requires reads { IsOrdered request_cmp base.now.reads }
     requires fresh { IsFresh work.old }
-    requires about { IsAbout base.now.me work.old.time what work.old.request }
+    requires about { IsAbout base.now.me work.old.time what.old work.old.request }
     requires new { IsNewTo base.now work.old.time }
     requires time { work.old.time < 2 ^ 63 }
-    ensures ok { IfOk result (λ given. TakesMatters base.now R.Disk.is_honest (R.durable replica.old) work.old (matter_of base.now.setting base.now.me what) given work.new) }
+    ensures ok { IfOk result (λ given. TakesMatters base.now R.Disk.is_honest (R.durable replica.old) work.old (matter_of base.now.setting base.now.me what.old) given work.new) }
     ensures same { IsErrOf result call_error.Failed → work.new ≡ work.old }
-    ensures asks { IsErrOf result call_error.Failed → AskNothing (matter_of base.now.setting base.now.me what) }
+    ensures asks { IsErrOf result call_error.Failed → AskNothing (matter_of base.now.setting base.now.me what.old) }
     ensures peeks { Peeks R.stands_for (λ r. R.Disk.disk (R.disk r)) R.durable R.log_end (λ r. R.Disk.faults (R.disk r)) (λ r n. R.Disk.spares (R.disk r) n) R.Disk.is_honest replica.old replica.new }
     ensures whole { (IsErrOf result call_error.Failed → ⊥) → R.is_whole replica.new }
     ensures failed { IsErrOf result call_error.Failed → HasRisen (R.Disk.faults (R.disk replica.old)) (R.Disk.faults (R.disk replica.new)) }
     ensures surely { IsErrOf result call_error.Failed → ((n : ℕ) → R.Disk.spares (R.disk replica.old) n) → ⊥ }
 {
     match what {
-        What::Client(ask) => Ok(work.ask(base, alloc, ask)?),
+        What::Client(ask) => Ok(work.ask(base, alloc, moved(ask))?),
         What::Deliver(message) => take_message(base, replica, alloc, work, message),
-        What::Alive(peer, up) => Ok(work.mark(base, alloc, peer, up)?),
+        What::Alive(peer, up) => Ok(work.mark(base, alloc, *peer, *up)?),
         What::Flush | What::Tick => Ok(Given::nothing(alloc)),
     }
 }
@@ -143,29 +168,29 @@ fn settle<R: Replica>(
     ensures failed { IsErrOf result call_error.Failed → HasRisen (R.Disk.faults (R.disk replica.old)) (R.Disk.faults (R.disk replica.new)) }
     ensures surely { IsErrOf result call_error.Failed → ((n : ℕ) → R.Disk.spares (R.disk replica.old) n) → ⊥ }
 {
-    while let Some(sent) = work.queue.pop_front() {
-        hear_own(base, replica, alloc, work, sent)?;
+    while let Some(mut sent) = work.queue.pop_front() {
+        hear_own(base, replica, alloc, work, &mut sent)?;
     }
     Ok(())
 }
 
-/// Takes the event's own matter, and all that comes of it at the node itself.
+/// Takes the event's own matter, which it moves, and all that comes of it at the node itself.
 pub(crate) fn work_out<R: Replica>(
     base: &Base,
     replica: &mut R,
     alloc: Global,
     work: &mut Work,
-    what: What,
+    what: &mut What,
 ) -> Result<(), CallError>
     requires whole { R.is_whole replica.old }
     requires writes { IsOrdered request_cmp base.now.writes }
     requires reads { IsOrdered request_cmp base.now.reads }
     requires fresh { IsFresh work.old }
-    requires about { IsAbout base.now.me work.old.time what work.old.request }
+    requires about { IsAbout base.now.me work.old.time what.old work.old.request }
     requires new { IsNewTo base.now work.old.time }
     requires time { work.old.time < 2 ^ 63 }
-    ensures ok { OnOk result (IsWorkedOut base.now R.Disk.is_honest (R.durable replica.old) (matter_of base.now.setting base.now.me what) work.old work.new) }
-    ensures cut { IsErrOf result call_error.Failed → R.Disk.is_honest → CutsIn base.now (R.durable replica.old) (matter_of base.now.setting base.now.me what) work.old work.new }
+    ensures ok { OnOk result (IsWorkedOut base.now R.Disk.is_honest (R.durable replica.old) (matter_of base.now.setting base.now.me what.old) work.old work.new) }
+    ensures cut { IsErrOf result call_error.Failed → R.Disk.is_honest → CutsIn base.now (R.durable replica.old) (matter_of base.now.setting base.now.me what.old) work.old work.new }
     ensures peeks { Peeks R.stands_for (λ r. R.Disk.disk (R.disk r)) R.durable R.log_end (λ r. R.Disk.faults (R.disk r)) (λ r n. R.Disk.spares (R.disk r) n) R.Disk.is_honest replica.old replica.new }
     ensures whole { (IsErrOf result call_error.Failed → ⊥) → R.is_whole replica.new }
     ensures failed { IsErrOf result call_error.Failed → HasRisen (R.Disk.faults (R.disk replica.old)) (R.Disk.faults (R.disk replica.new)) }

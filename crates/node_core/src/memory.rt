@@ -183,75 +183,81 @@ fn keep_made<R: Replica>(
     }
 }
 
-/// Takes an event at this time.
+/// Takes an event at this time, and moves what it has.
 fn step_at<R: Replica>(
     memory: &mut Memory,
     replica: &mut R,
     alloc: Global,
     time: Micros,
-    mut event: Event,
+    event: &mut Event,
 ) -> Result<Outputs, StepError>
     requires whole { R.is_whole replica.old }
     requires held { HoldsCore memory.old.base memory.old.time }
     requires tied { R.Disk.is_honest → IsKeptOf (R.durable replica.old) memory.old.kept }
-    requires time { time ≡ risen_time memory.old.time event }
+    requires time { time ≡ risen_time memory.old.time event.old }
     requires within { time ≤ end_of_time }
 
-    ensures ok { IfOk result (λ outputs. R.Disk.is_honest → Steps (core_of memory.old) (R.durable replica.old) event outputs (core_of memory.new) (R.durable replica.new)) }
+    ensures ok { IfOk result (λ outputs. R.Disk.is_honest → Steps (core_of memory.old) (R.durable replica.old) event.old outputs (core_of memory.new) (R.durable replica.new)) }
     ensures held { HoldsCore memory.new.base memory.new.time }
     ensures tied { ((l : _) → IsErrOf result (step_error.Failed l) → ⊥) → R.Disk.is_honest → IsKeptOf (R.durable replica.new) memory.new.kept }
     ensures whole { ((l : _) → IsErrOf result (step_error.Failed l) → ⊥) → R.is_whole replica.new }
     ensures back { OnErr result (core_of memory.new ≡ core_of memory.old) }
     ensures same { OnErr result (((l : _) → IsErrOf result (step_error.Failed l) → ⊥) → R.Disk.is_honest → R.durable replica.new ≡ R.durable replica.old) }
-    ensures room { OnOk result (R.Disk.is_honest → WouldKeep (core_of memory.old) (R.durable replica.old) event (HasRoom (R.log_end replica.old) (R.durable replica.old))) }
-    ensures no_room { IsErrOf result step_error.NoRoom → R.Disk.is_honest → HasNoRoom (core_of memory.old) (R.durable replica.old) (R.log_end replica.old) event }
-    ensures too_large { (p : _) → IsErrOf result (step_error.TooLarge p) → R.Disk.is_honest → IsTooLarge (core_of memory.old) (R.durable replica.old) event p }
+    ensures room { OnOk result (R.Disk.is_honest → WouldKeep (core_of memory.old) (R.durable replica.old) event.old (HasRoom (R.log_end replica.old) (R.durable replica.old))) }
+    ensures no_room { IsErrOf result step_error.NoRoom → R.Disk.is_honest → HasNoRoom (core_of memory.old) (R.durable replica.old) (R.log_end replica.old) event.old }
+    ensures too_large { (p : _) → IsErrOf result (step_error.TooLarge p) → R.Disk.is_honest → IsTooLarge (core_of memory.old) (R.durable replica.old) event.old p }
     ensures cause { (l : _) → IsErrOf result (step_error.Failed l) → HasRisen (R.Disk.faults (R.disk replica.old)) (R.Disk.faults (R.disk replica.new)) }
     ensures surely { (l : _) → IsErrOf result (step_error.Failed l) → ((n : ℕ) → R.Disk.spares (R.disk replica.old) n) → ⊥ }
     ensures spared { ((n : ℕ) → R.Disk.spares (R.disk replica.old) n) → (n : ℕ) → R.Disk.spares (R.disk replica.new) n }
-    ensures halts { (l : _) → IsErrOf result (step_error.Failed l) → R.Disk.is_honest → Halts (core_of memory.old) (R.durable replica.old) event (remains l.started l.entries) R.stands_for (R.Disk.disk (R.disk replica.new)) }
+    ensures halts { (l : _) → IsErrOf result (step_error.Failed l) → R.Disk.is_honest → Halts (core_of memory.old) (R.durable replica.old) event.old (remains l.started l.entries) R.stands_for (R.Disk.disk (R.disk replica.new)) }
 
     // A crash at any moment of the step leaves what was kept before it or behind it.
-    ensures any_moment { R.Disk.is_honest → AlwaysLeaves R.stands_for (IsBeforeOrBehind (core_of memory.old) (R.durable replica.old) event) (R.Disk.disk (R.disk replica.old)) (R.Disk.disk (R.disk replica.new)) }
+    ensures any_moment { R.Disk.is_honest → AlwaysLeaves R.stands_for (IsBeforeOrBehind (core_of memory.old) (R.durable replica.old) event.old) (R.Disk.disk (R.disk replica.old)) (R.Disk.disk (R.disk replica.new)) }
 {
-    let mut made = memory.begin(alloc, time, &mut event);
-    match work_out(&memory.base, replica, alloc, &mut made.work, event.what) {
+    let mut made = memory.begin(alloc, time, event);
+    match work_out(
+        &memory.base,
+        replica,
+        alloc,
+        &mut made.work,
+        &mut event.what,
+    ) {
         Ok(()) => keep_made(memory, replica, alloc, &mut made),
         Err(CallError::Failed) => Err(StepError::Failed(made.lost(alloc))),
         Err(CallError::NoMemory) => Err(StepError::NoMemory),
     }
 }
 
-/// Takes an event. After `Failed` the store is to be loaded again; after another error all is as it was.
+/// Takes an event, and moves what it has. After `Failed` the store is to be loaded again; after another error all is as it was.
 pub(crate) fn advance<R: Replica>(
     memory: &mut Memory,
     replica: &mut R,
     alloc: Global,
-    event: Event,
+    event: &mut Event,
 ) -> Result<Outputs, StepError>
     requires whole { R.is_whole replica.old }
     requires held { HoldsCore memory.old.base memory.old.time }
     requires tied { R.Disk.is_honest → IsKeptOf (R.durable replica.old) memory.old.kept }
 
-    ensures ok { IfOk result (λ outputs. R.Disk.is_honest → Steps (core_of memory.old) (R.durable replica.old) event outputs (core_of memory.new) (R.durable replica.new)) }
-    ensures late { OnOk result (risen_time memory.old.time event ≤ end_of_time) }
+    ensures ok { IfOk result (λ outputs. R.Disk.is_honest → Steps (core_of memory.old) (R.durable replica.old) event.old outputs (core_of memory.new) (R.durable replica.new)) }
+    ensures late { OnOk result (risen_time memory.old.time event.old ≤ end_of_time) }
     ensures held { HoldsCore memory.new.base memory.new.time }
     ensures tied { ((l : _) → IsErrOf result (step_error.Failed l) → ⊥) → R.Disk.is_honest → IsKeptOf (R.durable replica.new) memory.new.kept }
     ensures whole { ((l : _) → IsErrOf result (step_error.Failed l) → ⊥) → R.is_whole replica.new }
     ensures back { OnErr result (core_of memory.new ≡ core_of memory.old) }
     ensures same { OnErr result (((l : _) → IsErrOf result (step_error.Failed l) → ⊥) → R.Disk.is_honest → R.durable replica.new ≡ R.durable replica.old) }
-    ensures room { OnOk result (R.Disk.is_honest → WouldKeep (core_of memory.old) (R.durable replica.old) event (HasRoom (R.log_end replica.old) (R.durable replica.old))) }
-    ensures no_room { IsErrOf result step_error.NoRoom → R.Disk.is_honest → HasNoRoom (core_of memory.old) (R.durable replica.old) (R.log_end replica.old) event }
-    ensures too_large { (p : _) → IsErrOf result (step_error.TooLarge p) → R.Disk.is_honest → IsTooLarge (core_of memory.old) (R.durable replica.old) event p }
+    ensures room { OnOk result (R.Disk.is_honest → WouldKeep (core_of memory.old) (R.durable replica.old) event.old (HasRoom (R.log_end replica.old) (R.durable replica.old))) }
+    ensures no_room { IsErrOf result step_error.NoRoom → R.Disk.is_honest → HasNoRoom (core_of memory.old) (R.durable replica.old) (R.log_end replica.old) event.old }
+    ensures too_large { (p : _) → IsErrOf result (step_error.TooLarge p) → R.Disk.is_honest → IsTooLarge (core_of memory.old) (R.durable replica.old) event.old p }
     ensures cause { (l : _) → IsErrOf result (step_error.Failed l) → HasRisen (R.Disk.faults (R.disk replica.old)) (R.Disk.faults (R.disk replica.new)) }
     ensures surely { (l : _) → IsErrOf result (step_error.Failed l) → ((n : ℕ) → R.Disk.spares (R.disk replica.old) n) → ⊥ }
     ensures spared { ((n : ℕ) → R.Disk.spares (R.disk replica.old) n) → (n : ℕ) → R.Disk.spares (R.disk replica.new) n }
-    ensures halts { (l : _) → IsErrOf result (step_error.Failed l) → R.Disk.is_honest → Halts (core_of memory.old) (R.durable replica.old) event (remains l.started l.entries) R.stands_for (R.Disk.disk (R.disk replica.new)) }
+    ensures halts { (l : _) → IsErrOf result (step_error.Failed l) → R.Disk.is_honest → Halts (core_of memory.old) (R.durable replica.old) event.old (remains l.started l.entries) R.stands_for (R.Disk.disk (R.disk replica.new)) }
 
     // A crash at any moment of the step leaves what was kept before it or behind it.
-    ensures any_moment { R.Disk.is_honest → AlwaysLeaves R.stands_for (IsBeforeOrBehind (core_of memory.old) (R.durable replica.old) event) (R.Disk.disk (R.disk replica.old)) (R.Disk.disk (R.disk replica.new)) }
+    ensures any_moment { R.Disk.is_honest → AlwaysLeaves R.stands_for (IsBeforeOrBehind (core_of memory.old) (R.durable replica.old) event.old) (R.Disk.disk (R.disk replica.old)) (R.Disk.disk (R.disk replica.new)) }
 {
-    let Some(time) = risen(memory.time, &event) else {
+    let Some(time) = risen(memory.time, event) else {
         return Err(StepError::NoRoom);
     };
     step_at(memory, replica, alloc, time, event)

@@ -84,30 +84,30 @@ impl NodeCore {
         &mut self,
         replica: &mut R,
         alloc: Global,
-        event: Event,
+        event: &mut Event,
     ) -> Result<Outputs, StepError>
         requires whole { self.old.runs ≡ true → R.is_whole replica.old }
         requires tied { self.old.runs ≡ true → R.Disk.is_honest → IsKeptOf (R.durable replica.old) self.old.kept }
 
         ensures runs { OnOk result (self.old.runs ≡ true) }
-        ensures ok { IfOk result (λ outputs. R.Disk.is_honest → Steps self.old (R.durable replica.old) event outputs self.new (R.durable replica.new)) }
+        ensures ok { IfOk result (λ outputs. R.Disk.is_honest → Steps self.old (R.durable replica.old) event.old outputs self.new (R.durable replica.new)) }
         ensures whole { self.new.runs ≡ true → R.is_whole replica.new }
         ensures tied { self.new.runs ≡ true → R.Disk.is_honest → IsKeptOf (R.durable replica.new) self.new.kept }
-        ensures late { OnOk result (risen_time self.old.time event ≤ end_of_time) }
-        ensures room { OnOk result (R.Disk.is_honest → WouldKeep self.old (R.durable replica.old) event (HasRoom (R.log_end replica.old) (R.durable replica.old))) }
-        ensures no_room { IsErrOf result step_error.NoRoom → R.Disk.is_honest → HasNoRoom self.old (R.durable replica.old) (R.log_end replica.old) event }
-        ensures too_large { (p : _) → IsErrOf result (step_error.TooLarge p) → R.Disk.is_honest → IsTooLarge self.old (R.durable replica.old) event p }
+        ensures late { OnOk result (risen_time self.old.time event.old ≤ end_of_time) }
+        ensures room { OnOk result (R.Disk.is_honest → WouldKeep self.old (R.durable replica.old) event.old (HasRoom (R.log_end replica.old) (R.durable replica.old))) }
+        ensures no_room { IsErrOf result step_error.NoRoom → R.Disk.is_honest → HasNoRoom self.old (R.durable replica.old) (R.log_end replica.old) event.old }
+        ensures too_large { (p : _) → IsErrOf result (step_error.TooLarge p) → R.Disk.is_honest → IsTooLarge self.old (R.durable replica.old) event.old p }
         ensures same { OnErr result (self.new.runs ≡ true → (self.new ≡ self.old) × (R.Disk.is_honest → R.durable replica.new ≡ R.durable replica.old)) }
         ensures failed { (l : _) → IsErrOf result (step_error.Failed l) → self.new ≡ record self.old { runs = false } }
         ensures others { OnErr result (((l : _) → IsErrOf result (step_error.Failed l) → ⊥) → self.new.runs ≡ true) }
         ensures cause { (l : _) → IsErrOf result (step_error.Failed l) → self.old.runs ≡ true → HasRisen (R.Disk.faults (R.disk replica.old)) (R.Disk.faults (R.disk replica.new)) }
-        ensures halts { (l : _) → IsErrOf result (step_error.Failed l) → self.old.runs ≡ true → R.Disk.is_honest → Halts self.old (R.durable replica.old) event (remains l.started l.entries) R.stands_for (R.Disk.disk (R.disk replica.new)) }
+        ensures halts { (l : _) → IsErrOf result (step_error.Failed l) → self.old.runs ≡ true → R.Disk.is_honest → Halts self.old (R.durable replica.old) event.old (remains l.started l.entries) R.stands_for (R.Disk.disk (R.disk replica.new)) }
         ensures dead { self.old.runs ≡ false → (self.new ≡ self.old) × (replica.new ≡ replica.old) }
         ensures told { (l : _) → IsErrOf result (step_error.Failed l) → self.old.runs ≡ false → remains l.started l.entries ≡ [] }
         ensures surely { self.old.runs ≡ true → ((n : ℕ) → R.Disk.spares (R.disk replica.old) n) → ((l : _) → IsErrOf result (step_error.Failed l) → ⊥) × ((n : ℕ) → R.Disk.spares (R.disk replica.new) n) }
 
         // A crash at any moment of the step leaves what was kept before it or behind it.
-        ensures any_moment { self.old.runs ≡ true → R.Disk.is_honest → AlwaysLeaves R.stands_for (IsBeforeOrBehind self.old (R.durable replica.old) event) (R.Disk.disk (R.disk replica.old)) (R.Disk.disk (R.disk replica.new)) }
+        ensures any_moment { self.old.runs ≡ true → R.Disk.is_honest → AlwaysLeaves R.stands_for (IsBeforeOrBehind self.old (R.durable replica.old) event.old) (R.Disk.disk (R.disk replica.old)) (R.Disk.disk (R.disk replica.new)) }
     {
         if !self.runs {
             return Err(StepError::Failed(Lost::nothing(alloc)));
@@ -156,7 +156,7 @@ impl<R: Replica> Node<R> {
     /// After `NoRoom`, `TooLarge` and `NoMemory` the node and what it keeps are as they were, and the event has not happened.
     /// After `Failed` it has stopped: the step is made, with its outputs lost, or it is not, and each later one answers `Failed`
     /// too.
-    pub fn step(&mut self, alloc: Global, event: Event) -> Result<Outputs, StepError>
+    pub fn step(&mut self, alloc: Global, mut event: Event) -> Result<Outputs, StepError>
         requires whole { self.old.core.runs ≡ true → R.is_whole self.old.replica }
         requires tied { self.old.core.runs ≡ true → R.Disk.is_honest → IsKeptOf (R.durable self.old.replica) self.old.core.kept }
 
@@ -180,7 +180,7 @@ impl<R: Replica> Node<R> {
         // A crash at any moment of the step leaves what was kept before it or behind it.
         ensures any_moment { self.old.core.runs ≡ true → R.Disk.is_honest → AlwaysLeaves R.stands_for (IsBeforeOrBehind self.old.core (R.durable self.old.replica) event) (R.Disk.disk (R.disk self.old.replica)) (R.Disk.disk (R.disk self.new.replica)) }
     {
-        self.core.step(&mut self.replica, alloc, event)
+        self.core.step(&mut self.replica, alloc, &mut event)
     }
 
     /// The node's disk, to be loaded again.

@@ -6,7 +6,7 @@ ghost use Rattle.node_core.specs.Working.{own_sent};
 
 use crate::slot::Slot;
 use cs_base::{Items, Micros, NodeId, ReqId};
-use peer_messages::{Body, Entries, Message, Messages, Move, NodeIds, Outbound, Sends};
+use peer_messages::{Entries, Message, Messages, Move, NodeIds, Outbound, Sends};
 use read_coord::ReadCoord;
 use row_change::LogItem;
 use std::alloc::{AllocError, Global};
@@ -36,15 +36,6 @@ pub(crate) struct Work {
 pub(crate) struct Given {
     pub sends: Sends,
     pub entries: Entries,
-}
-
-/// A body that comes to a node, its own ones too.
-#[derive(Drop)]
-pub(crate) struct Heard {
-    pub from: NodeId,
-    pub born: Micros,
-    pub request: ReqId,
-    pub body: Body,
 }
 
 fn message(me: NodeId, sent: Outbound, time: Micros) -> Message
@@ -101,6 +92,9 @@ impl Work {
     fn send_all(&mut self, me: NodeId, sends: Sends) -> Result<(), AllocError>
         ensures { OnOk result (IsSent me sends self.old self.new) }
     {
+        if sends.as_slice().is_empty() {
+            return Ok(());
+        }
         for sent in sends.into_vec() {
             self.send(me, sent)?;
         }

@@ -78,13 +78,13 @@ fn write_to_all(
 ) -> Result<Sends, AllocError>
     ensures { IfOk result (λ sends. sends ≡ send_to request (Write mutation.now) (up_of down.now nodes.now)) }
 {
-    let mut sends = Items::new(alloc);
+    let mut sends = Vec::with_capacity(alloc, nodes.len())?;
     for node in nodes {
         if !is_in(down, *node) {
             sends.push(write_to(alloc, request, mutation, *node)?)?;
         }
     }
-    Ok(sends)
+    Ok(Items::from_vec(sends))
 }
 
 /// Whether each of the replicas is among those heard of.
@@ -97,9 +97,9 @@ fn are_in(replicas: &[NodeId], heard: &[NodeId]) -> bool
 fn entered(alloc: Global, entry: Entry) -> Result<Entries, AllocError>
     ensures { IfOk result (λ entries. entries ≡ entry ∷ []) }
 {
-    let mut entries = Items::new(alloc);
+    let mut entries = Vec::with_capacity(alloc, 1)?;
     entries.push(entry)?;
-    Ok(entries)
+    Ok(Items::from_vec(entries))
 }
 
 /// What begins a write, whose mutation the request has made of a draft: it is submitted, and goes to each replica that is
@@ -173,12 +173,11 @@ impl WriteCoord {
     fn told(&self, alloc: Global, request: ReqId, tally: &Tally) -> Result<Entries, AllocError>
         ensures { IfOk result (λ entries. entries ≡ ack_told self.now.answered tally.now.enough request (record self.now { heard = tally.now.heard })) }
     {
-        let mut entries = Items::new(alloc);
         if tally.enough && !self.answered {
             let heard = tally.heard.to_nodes(alloc)?;
-            entries.push(Entry::Acked(request, self.level, heard))?;
+            return entered(alloc, Entry::Acked(request, self.level, heard));
         }
-        Ok(entries)
+        Ok(Items::new(alloc))
     }
 
     /// Takes a node's acknowledgement of the request. That of a node that is no replica, and a repeated one, count for

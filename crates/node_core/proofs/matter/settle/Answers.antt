@@ -32,6 +32,96 @@ loop-sent-preserved g c =
       whole = whole;
     }
 
+pub loop-sent-smaller-in_ok-hear_own : goal.loop-sent-smaller-in_ok-hear_own
+loop-sent-smaller-in_ok-hear_own g c =
+    let pops = pops_by c.loop-sent.work (record c.loop-sent.work { queue = c.pop_front.new.self }) c.in-Some.sent c.pop_front.result refl c.pop_front.ensures.items c.in-Some.is in
+    let lighter = by_lighter c.args.base.now g.R.Disk.Store.is_honest (g.R.Replica.durable c.loop-sent.replica) c.in-Some.sent (record c.loop-sent.work { queue = c.pop_front.new.self }) c.hear_own.new.work c.in_ok-hear_own.ensures.ok in
+    let before = ap weight pops.0 in
+    omega arith
+
+pub loop-sent-preserved-in_ok-hear_own : goal.loop-sent-preserved-in_ok-hear_own
+loop-sent-preserved-in_ok-hear_own g c =
+    let pops = pops_by c.loop-sent.work (record c.loop-sent.work { queue = c.pop_front.new.self }) c.in-Some.sent c.pop_front.result refl c.pop_front.ensures.items c.in-Some.is in
+    let whole : g.R.Replica.is_whole c.hear_own.new.replica = search rules in
+    record {
+      along = along_more c.args.base.now g.R.Disk.Store.is_honest (g.R.Replica.durable c.args.replica.now) c.args.work.now c.loop-sent.work (record c.loop-sent.work { queue = c.pop_front.new.self }) c.hear_own.new.work c.in-Some.sent c.loop-sent.invariant.along pops
+          (by_at c.args.base.now g.R.Disk.Store.is_honest (g.R.Replica.durable c.loop-sent.replica) (g.R.Replica.durable c.args.replica.now) c.in-Some.sent (record c.loop-sent.work { queue = c.pop_front.new.self }) c.hear_own.new.work (λ honest. (c.loop-sent.invariant.peeks.looked honest).same) c.in_ok-hear_own.ensures.ok);
+      peeks = peeks_on _ _ _ _ _ _ _ c.args.replica.now c.loop-sent.replica c.hear_own.new.replica c.loop-sent.invariant.peeks c.hear_own.ensures.peeks;
+      whole = whole;
+    }
+
+pub loop-sent-smaller-in_ok-hear_own-2 : goal.loop-sent-smaller-in_ok-hear_own-2
+loop-sent-smaller-in_ok-hear_own-2 g c =
+    let pops = pops_by c.loop-sent.work (record c.loop-sent.work { queue = c.pop_front.new.self }) c.in-Some.sent c.pop_front.result refl c.pop_front.ensures.items c.in-Some.is in
+    let lighter = by_lighter c.args.base.now g.R.Disk.Store.is_honest (g.R.Replica.durable c.loop-sent.replica) c.in-Some.sent (record c.loop-sent.work { queue = c.pop_front.new.self }) c.hear_own.new.work c.in_ok-hear_own.ensures.ok in
+    let before = ap weight pops.0 in
+    omega arith
+
+pub loop-sent-preserved-in_ok-hear_own-2 : goal.loop-sent-preserved-in_ok-hear_own-2
+loop-sent-preserved-in_ok-hear_own-2 g c =
+    let pops = pops_by c.loop-sent.work (record c.loop-sent.work { queue = c.pop_front.new.self }) c.in-Some.sent c.pop_front.result refl c.pop_front.ensures.items c.in-Some.is in
+    let whole : g.R.Replica.is_whole c.hear_own.new.replica = search rules in
+    record {
+      along = along_more c.args.base.now g.R.Disk.Store.is_honest (g.R.Replica.durable c.args.replica.now) c.args.work.now c.loop-sent.work (record c.loop-sent.work { queue = c.pop_front.new.self }) c.hear_own.new.work c.in-Some.sent c.loop-sent.invariant.along pops
+          (by_at c.args.base.now g.R.Disk.Store.is_honest (g.R.Replica.durable c.loop-sent.replica) (g.R.Replica.durable c.args.replica.now) c.in-Some.sent (record c.loop-sent.work { queue = c.pop_front.new.self }) c.hear_own.new.work (λ honest. (c.loop-sent.invariant.peeks.looked honest).same) c.in_ok-hear_own.ensures.ok);
+      peeks = peeks_on _ _ _ _ _ _ _ c.args.replica.now c.loop-sent.replica c.hear_own.new.replica c.loop-sent.invariant.peeks c.hear_own.ensures.peeks;
+      whole = whole;
+    }
+
+pub loop-sent-smaller-in_ok-hear_own-3 : goal.loop-sent-smaller-in_ok-hear_own-3
+loop-sent-smaller-in_ok-hear_own-3 g c =
+    let pops = pops_by c.loop-sent.work (record c.loop-sent.work { queue = c.pop_front.new.self }) c.in-Some.sent c.pop_front.result refl c.pop_front.ensures.items c.in-Some.is in
+    let lighter = by_lighter c.args.base.now g.R.Disk.Store.is_honest (g.R.Replica.durable c.loop-sent.replica) c.in-Some.sent (record c.loop-sent.work { queue = c.pop_front.new.self }) c.hear_own.new.work c.in_ok-hear_own.ensures.ok in
+    let before = ap weight pops.0 in
+    omega arith
+
+pub loop-sent-preserved-in_ok-hear_own-3 : goal.loop-sent-preserved-in_ok-hear_own-3
+loop-sent-preserved-in_ok-hear_own-3 g c =
+    let pops = pops_by c.loop-sent.work (record c.loop-sent.work { queue = c.pop_front.new.self }) c.in-Some.sent c.pop_front.result refl c.pop_front.ensures.items c.in-Some.is in
+    let whole : g.R.Replica.is_whole c.hear_own.new.replica = search rules in
+    record {
+      along = along_more c.args.base.now g.R.Disk.Store.is_honest (g.R.Replica.durable c.args.replica.now) c.args.work.now c.loop-sent.work (record c.loop-sent.work { queue = c.pop_front.new.self }) c.hear_own.new.work c.in-Some.sent c.loop-sent.invariant.along pops
+          (by_at c.args.base.now g.R.Disk.Store.is_honest (g.R.Replica.durable c.loop-sent.replica) (g.R.Replica.durable c.args.replica.now) c.in-Some.sent (record c.loop-sent.work { queue = c.pop_front.new.self }) c.hear_own.new.work (λ honest. (c.loop-sent.invariant.peeks.looked honest).same) c.in_ok-hear_own.ensures.ok);
+      peeks = peeks_on _ _ _ _ _ _ _ c.args.replica.now c.loop-sent.replica c.hear_own.new.replica c.loop-sent.invariant.peeks c.hear_own.ensures.peeks;
+      whole = whole;
+    }
+
+pub loop-sent-smaller-in_ok-hear_own-4 : goal.loop-sent-smaller-in_ok-hear_own-4
+loop-sent-smaller-in_ok-hear_own-4 g c =
+    let pops = pops_by c.loop-sent.work (record c.loop-sent.work { queue = c.pop_front.new.self }) c.in-Some.sent c.pop_front.result refl c.pop_front.ensures.items c.in-Some.is in
+    let lighter = by_lighter c.args.base.now g.R.Disk.Store.is_honest (g.R.Replica.durable c.loop-sent.replica) c.in-Some.sent (record c.loop-sent.work { queue = c.pop_front.new.self }) c.hear_own.new.work c.in_ok-hear_own.ensures.ok in
+    let before = ap weight pops.0 in
+    omega arith
+
+pub loop-sent-preserved-in_ok-hear_own-4 : goal.loop-sent-preserved-in_ok-hear_own-4
+loop-sent-preserved-in_ok-hear_own-4 g c =
+    let pops = pops_by c.loop-sent.work (record c.loop-sent.work { queue = c.pop_front.new.self }) c.in-Some.sent c.pop_front.result refl c.pop_front.ensures.items c.in-Some.is in
+    let whole : g.R.Replica.is_whole c.hear_own.new.replica = search rules in
+    record {
+      along = along_more c.args.base.now g.R.Disk.Store.is_honest (g.R.Replica.durable c.args.replica.now) c.args.work.now c.loop-sent.work (record c.loop-sent.work { queue = c.pop_front.new.self }) c.hear_own.new.work c.in-Some.sent c.loop-sent.invariant.along pops
+          (by_at c.args.base.now g.R.Disk.Store.is_honest (g.R.Replica.durable c.loop-sent.replica) (g.R.Replica.durable c.args.replica.now) c.in-Some.sent (record c.loop-sent.work { queue = c.pop_front.new.self }) c.hear_own.new.work (λ honest. (c.loop-sent.invariant.peeks.looked honest).same) c.in_ok-hear_own.ensures.ok);
+      peeks = peeks_on _ _ _ _ _ _ _ c.args.replica.now c.loop-sent.replica c.hear_own.new.replica c.loop-sent.invariant.peeks c.hear_own.ensures.peeks;
+      whole = whole;
+    }
+
+pub loop-sent-smaller-in_ok-hear_own-5 : goal.loop-sent-smaller-in_ok-hear_own-5
+loop-sent-smaller-in_ok-hear_own-5 g c =
+    let pops = pops_by c.loop-sent.work (record c.loop-sent.work { queue = c.pop_front.new.self }) c.in-Some.sent c.pop_front.result refl c.pop_front.ensures.items c.in-Some.is in
+    let lighter = by_lighter c.args.base.now g.R.Disk.Store.is_honest (g.R.Replica.durable c.loop-sent.replica) c.in-Some.sent (record c.loop-sent.work { queue = c.pop_front.new.self }) c.hear_own.new.work c.in_ok-hear_own.ensures.ok in
+    let before = ap weight pops.0 in
+    omega arith
+
+pub loop-sent-preserved-in_ok-hear_own-5 : goal.loop-sent-preserved-in_ok-hear_own-5
+loop-sent-preserved-in_ok-hear_own-5 g c =
+    let pops = pops_by c.loop-sent.work (record c.loop-sent.work { queue = c.pop_front.new.self }) c.in-Some.sent c.pop_front.result refl c.pop_front.ensures.items c.in-Some.is in
+    let whole : g.R.Replica.is_whole c.hear_own.new.replica = search rules in
+    record {
+      along = along_more c.args.base.now g.R.Disk.Store.is_honest (g.R.Replica.durable c.args.replica.now) c.args.work.now c.loop-sent.work (record c.loop-sent.work { queue = c.pop_front.new.self }) c.hear_own.new.work c.in-Some.sent c.loop-sent.invariant.along pops
+          (by_at c.args.base.now g.R.Disk.Store.is_honest (g.R.Replica.durable c.loop-sent.replica) (g.R.Replica.durable c.args.replica.now) c.in-Some.sent (record c.loop-sent.work { queue = c.pop_front.new.self }) c.hear_own.new.work (λ honest. (c.loop-sent.invariant.peeks.looked honest).same) c.in_ok-hear_own.ensures.ok);
+      peeks = peeks_on _ _ _ _ _ _ _ c.args.replica.now c.loop-sent.replica c.hear_own.new.replica c.loop-sent.invariant.peeks c.hear_own.ensures.peeks;
+      whole = whole;
+    }
+
 pub returns-in_err-hear_own-clause-peeks : goal.returns-in_err-hear_own-clause-peeks
 returns-in_err-hear_own-clause-peeks g c = peeks_on _ _ _ _ _ _ _ c.args.replica.now c.loop-sent.replica c.hear_own.new.replica c.loop-sent.invariant.peeks c.hear_own.ensures.peeks
 

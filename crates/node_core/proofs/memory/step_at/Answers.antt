@@ -13,13 +13,13 @@ use Rattle.node_core.proofs.Stepping.{commit_halts, cut_at, look_halts, look_lea
 use Rattle.node_core.proofs.memory.step_at.Goals as goal
 
 pub work_out-requires-clause-about : goal.work_out-requires-clause-about
-work_out-requires-clause-about g c = begun_about c.args.memory.now c.args.time c.args.event (record { what = c.begin-made.new.event.what; made = c.begin-made.result }) c.begin-made.ensures
+work_out-requires-clause-about g c = begun_about c.args.memory.now c.args.time c.args.event.now (record { what = c.begin-made.new.event.what; made = c.begin-made.result }) c.begin-made.ensures
 
 pub work_out-requires-clause-new : goal.work_out-requires-clause-new
-work_out-requires-clause-new g c = begun_new c.args.memory.now c.args.time c.args.event (record { what = c.begin-made.new.event.what; made = c.begin-made.result }) c.begin-made.ensures c.requires.time c.requires.held
+work_out-requires-clause-new g c = begun_new c.args.memory.now c.args.time c.args.event.now (record { what = c.begin-made.new.event.what; made = c.begin-made.result }) c.begin-made.ensures c.requires.time c.requires.held
 
 pub work_out-requires-clause-time : goal.work_out-requires-clause-time
-work_out-requires-clause-time g c = begun_within c.args.memory.now c.args.time c.args.event (record { what = c.begin-made.new.event.what; made = c.begin-made.result }) c.begin-made.ensures c.requires.within
+work_out-requires-clause-time g c = begun_within c.args.memory.now c.args.time c.args.event.now (record { what = c.begin-made.new.event.what; made = c.begin-made.result }) c.begin-made.ensures c.requires.within
 
 pub keep_made-requires-clause-kept : goal.keep_made-requires-clause-kept
 keep_made-requires-clause-kept g c = λ honest. subst (λ (d : Durable). IsKeptOf d c.args.memory.now.kept) (sym (c.work_out.ensures.peeks.looked honest).same) (c.requires.tied honest)
@@ -27,14 +27,14 @@ keep_made-requires-clause-kept g c = λ honest. subst (λ (d : Durable). IsKeptO
 pub returns-in-Ok-clause-ok : goal.returns-in-Ok-clause-ok
 returns-in-Ok-clause-ok g c =
     let worked = ok_here c.work_out.result _ _ c.in-Ok.is c.work_out.ensures.ok in
-    steps_kept c.keep_made.result c.args.memory.now c.keep_made.new.memory (g.R.Replica.durable c.args.replica.now) (g.R.Replica.durable c.work_out.new.replica) (g.R.Replica.durable c.keep_made.new.replica) c.args.event (record c.begin-made.result { work = c.work_out.new.work }) g.R.Disk.Store.is_honest
-    (λ honest. ready c.args.memory.now (g.R.Replica.durable c.args.replica.now) c.args.event c.args.time (record { what = c.begin-made.new.event.what; made = c.begin-made.result }) g.R.Disk.Store.is_honest c.work_out.new.work c.requires.time c.begin-made.ensures worked honest (c.requires.tied honest))
+    steps_kept c.keep_made.result c.args.memory.now c.keep_made.new.memory (g.R.Replica.durable c.args.replica.now) (g.R.Replica.durable c.work_out.new.replica) (g.R.Replica.durable c.keep_made.new.replica) c.args.event.now (record c.begin-made.result { work = c.work_out.new.work }) g.R.Disk.Store.is_honest
+    (λ honest. ready c.args.memory.now (g.R.Replica.durable c.args.replica.now) c.args.event.now c.args.time (record { what = c.begin-made.new.event.what; made = c.begin-made.result }) g.R.Disk.Store.is_honest c.work_out.new.work c.requires.time c.begin-made.ensures worked honest (c.requires.tied honest))
     (λ honest. (c.work_out.ensures.peeks.looked honest).same) c.keep_made.ensures.outputs c.keep_made.ensures.ok c.keep_made.ensures.behind
 
 pub returns-in-Ok-clause-held : goal.returns-in-Ok-clause-held
 returns-in-Ok-clause-held g c =
     let worked = ok_here c.work_out.result _ _ c.in-Ok.is c.work_out.ensures.ok in
-    let later = begun_later c.args.memory.now c.args.time c.args.event (record { what = c.begin-made.new.event.what; made = c.begin-made.result }) c.begin-made.ensures c.requires.time in
+    let later = begun_later c.args.memory.now c.args.time c.args.event.now (record { what = c.begin-made.new.event.what; made = c.begin-made.result }) c.begin-made.ensures c.requires.time in
     let time = worked.time in
     held_kept c.keep_made.result c.args.memory.now c.keep_made.new.memory c.work_out.new.work c.requires.held (omega arith) worked.sound c.keep_made.ensures.ordered c.keep_made.ensures.behind c.keep_made.ensures.back
 
@@ -51,24 +51,24 @@ returns-in-Ok-clause-same g c =
 pub returns-in-Ok-clause-room : goal.returns-in-Ok-clause-room
 returns-in-Ok-clause-room g c =
     let worked = ok_here c.work_out.result _ _ c.in-Ok.is c.work_out.ensures.ok in
-    room_kept c.keep_made.result c.args.memory.now (g.R.Replica.durable c.args.replica.now) (g.R.Replica.durable c.work_out.new.replica) (g.R.Replica.log_end c.args.replica.now) (g.R.Replica.log_end c.work_out.new.replica) c.args.event (record c.begin-made.result { work = c.work_out.new.work }) g.R.Disk.Store.is_honest
-    (λ honest. ready c.args.memory.now (g.R.Replica.durable c.args.replica.now) c.args.event c.args.time (record { what = c.begin-made.new.event.what; made = c.begin-made.result }) g.R.Disk.Store.is_honest c.work_out.new.work c.requires.time c.begin-made.ensures worked honest (c.requires.tied honest))
+    room_kept c.keep_made.result c.args.memory.now (g.R.Replica.durable c.args.replica.now) (g.R.Replica.durable c.work_out.new.replica) (g.R.Replica.log_end c.args.replica.now) (g.R.Replica.log_end c.work_out.new.replica) c.args.event.now (record c.begin-made.result { work = c.work_out.new.work }) g.R.Disk.Store.is_honest
+    (λ honest. ready c.args.memory.now (g.R.Replica.durable c.args.replica.now) c.args.event.now c.args.time (record { what = c.begin-made.new.event.what; made = c.begin-made.result }) g.R.Disk.Store.is_honest c.work_out.new.work c.requires.time c.begin-made.ensures worked honest (c.requires.tied honest))
     (λ honest. (c.work_out.ensures.peeks.looked honest).same) c.work_out.ensures.peeks.log c.keep_made.ensures.room
 
 pub returns-in-Ok-clause-no_room : goal.returns-in-Ok-clause-no_room
 returns-in-Ok-clause-no_room g c = λ told honest.
     let worked = ok_here c.work_out.result _ _ c.in-Ok.is c.work_out.ensures.ok in
-    let made = ready c.args.memory.now (g.R.Replica.durable c.args.replica.now) c.args.event c.args.time (record { what = c.begin-made.new.event.what; made = c.begin-made.result }) g.R.Disk.Store.is_honest c.work_out.new.work c.requires.time c.begin-made.ensures worked honest (c.requires.tied honest) in
+    let made = ready c.args.memory.now (g.R.Replica.durable c.args.replica.now) c.args.event.now c.args.time (record { what = c.begin-made.new.event.what; made = c.begin-made.result }) g.R.Disk.Store.is_honest c.work_out.new.work c.requires.time c.begin-made.ensures worked honest (c.requires.tied honest) in
     let entry = entry_made c.args.memory.now c.work_out.new.work in
-    no_room c.args.memory.now (g.R.Replica.durable c.args.replica.now) (g.R.Replica.log_end c.args.replica.now) c.args.event (record c.begin-made.result { work = c.work_out.new.work }) made
+    no_room c.args.memory.now (g.R.Replica.durable c.args.replica.now) (g.R.Replica.log_end c.args.replica.now) c.args.event.now (record c.begin-made.result { work = c.work_out.new.work }) made
     (subst (λ (n : ℕ). OverflowsLog n (g.R.Replica.durable c.args.replica.now) entry) c.work_out.ensures.peeks.log
     (subst (λ (d : Durable). OverflowsLog (g.R.Replica.log_end c.work_out.new.replica) d entry) (c.work_out.ensures.peeks.looked honest).same (c.keep_made.ensures.no_room told honest)))
 
 pub returns-in-Ok-clause-too_large : goal.returns-in-Ok-clause-too_large
 returns-in-Ok-clause-too_large g c = λ p told honest.
     let worked = ok_here c.work_out.result _ _ c.in-Ok.is c.work_out.ensures.ok in
-    let made = ready c.args.memory.now (g.R.Replica.durable c.args.replica.now) c.args.event c.args.time (record { what = c.begin-made.new.event.what; made = c.begin-made.result }) g.R.Disk.Store.is_honest c.work_out.new.work c.requires.time c.begin-made.ensures worked honest (c.requires.tied honest) in
-    too_large c.args.memory.now (g.R.Replica.durable c.args.replica.now) c.args.event (record c.begin-made.result { work = c.work_out.new.work }) p made
+    let made = ready c.args.memory.now (g.R.Replica.durable c.args.replica.now) c.args.event.now c.args.time (record { what = c.begin-made.new.event.what; made = c.begin-made.result }) g.R.Disk.Store.is_honest c.work_out.new.work c.requires.time c.begin-made.ensures worked honest (c.requires.tied honest) in
+    too_large c.args.memory.now (g.R.Replica.durable c.args.replica.now) c.args.event.now (record c.begin-made.result { work = c.work_out.new.work }) p made
     (subst (λ (d : Durable). IsFirstTooLarge (entry_made c.args.memory.now c.work_out.new.work) d p) (c.work_out.ensures.peeks.looked honest).same (c.keep_made.ensures.too_large p told honest))
 
 pub returns-in-Ok-clause-cause : goal.returns-in-Ok-clause-cause
@@ -77,16 +77,16 @@ returns-in-Ok-clause-cause g c = λ l told. risen_later _ _ _ c.work_out.ensures
 pub returns-in-Ok-clause-halts : goal.returns-in-Ok-clause-halts
 returns-in-Ok-clause-halts g c = λ l told honest.
     let worked = ok_here c.work_out.result _ _ c.in-Ok.is c.work_out.ensures.ok in
-    let made = ready c.args.memory.now (g.R.Replica.durable c.args.replica.now) c.args.event c.args.time (record { what = c.begin-made.new.event.what; made = c.begin-made.result }) g.R.Disk.Store.is_honest c.work_out.new.work c.requires.time c.begin-made.ensures worked honest (c.requires.tied honest) in
-    commit_halts _ c.args.memory.now (g.R.Replica.durable c.args.replica.now) c.args.event (record c.begin-made.result { work = c.work_out.new.work }) l _ _ made (c.keep_made.ensures.lost l told)
+    let made = ready c.args.memory.now (g.R.Replica.durable c.args.replica.now) c.args.event.now c.args.time (record { what = c.begin-made.new.event.what; made = c.begin-made.result }) g.R.Disk.Store.is_honest c.work_out.new.work c.requires.time c.begin-made.ensures worked honest (c.requires.tied honest) in
+    commit_halts _ c.args.memory.now (g.R.Replica.durable c.args.replica.now) c.args.event.now (record c.begin-made.result { work = c.work_out.new.work }) l _ _ made (c.keep_made.ensures.lost l told)
     (subst (λ (d : Durable). AlwaysLeaves g.R.Replica.stands_for (IsWithOrWithout (entry_made c.args.memory.now c.work_out.new.work) d) (g.R.Disk.Store.disk (g.R.Replica.disk c.work_out.new.replica)) (g.R.Disk.Store.disk (g.R.Replica.disk c.keep_made.new.replica))) (c.work_out.ensures.peeks.looked honest).same
     (c.keep_made.ensures.any_moment honest))
 
 pub returns-in-Ok-clause-any_moment : goal.returns-in-Ok-clause-any_moment
 returns-in-Ok-clause-any_moment g c = λ honest.
     let worked = ok_here c.work_out.result _ _ c.in-Ok.is c.work_out.ensures.ok in
-    let made = ready c.args.memory.now (g.R.Replica.durable c.args.replica.now) c.args.event c.args.time (record { what = c.begin-made.new.event.what; made = c.begin-made.result }) g.R.Disk.Store.is_honest c.work_out.new.work c.requires.time c.begin-made.ensures worked honest (c.requires.tied honest) in
-    step_leaves _ c.args.memory.now (g.R.Replica.durable c.args.replica.now) c.args.event (record c.begin-made.result { work = c.work_out.new.work }) _ _ _ made (c.work_out.ensures.peeks.looked honest).leaves
+    let made = ready c.args.memory.now (g.R.Replica.durable c.args.replica.now) c.args.event.now c.args.time (record { what = c.begin-made.new.event.what; made = c.begin-made.result }) g.R.Disk.Store.is_honest c.work_out.new.work c.requires.time c.begin-made.ensures worked honest (c.requires.tied honest) in
+    step_leaves _ c.args.memory.now (g.R.Replica.durable c.args.replica.now) c.args.event.now (record c.begin-made.result { work = c.work_out.new.work }) _ _ _ made (c.work_out.ensures.peeks.looked honest).leaves
     (subst (λ (d : Durable). AlwaysLeaves g.R.Replica.stands_for (IsWithOrWithout (entry_made c.args.memory.now c.work_out.new.work) d) (g.R.Disk.Store.disk (g.R.Replica.disk c.work_out.new.replica)) (g.R.Disk.Store.disk (g.R.Replica.disk c.keep_made.new.replica))) (c.work_out.ensures.peeks.looked honest).same
     (c.keep_made.ensures.any_moment honest))
 
@@ -101,15 +101,15 @@ returns-in-Err-Failed-clause-cause g c = λ l told.
 pub returns-in-Err-Failed-clause-halts : goal.returns-in-Err-Failed-clause-halts
 returns-in-Err-Failed-clause-halts g c = λ l told honest.
     let failed : IsErrOf c.work_out.result call_error.Failed = search rules in
-    let cut = cut_at c.args.memory.now (g.R.Replica.durable c.args.replica.now) c.args.event c.args.time (record { what = c.begin-made.new.event.what; made = c.begin-made.result }) c.work_out.new.work c.requires.time c.begin-made.ensures (c.work_out.ensures.cut failed honest) (c.requires.tied honest) in
-    look_halts _ c.args.memory.now (g.R.Replica.durable c.args.replica.now) c.args.event c.work_out.new.work c.begin-made.result.started l _ _ cut (begun_started c.args.memory.now c.args.time c.args.event (record { what = c.begin-made.new.event.what; made = c.begin-made.result }) c.begin-made.ensures c.requires.time)
+    let cut = cut_at c.args.memory.now (g.R.Replica.durable c.args.replica.now) c.args.event.now c.args.time (record { what = c.begin-made.new.event.what; made = c.begin-made.result }) c.work_out.new.work c.requires.time c.begin-made.ensures (c.work_out.ensures.cut failed honest) (c.requires.tied honest) in
+    look_halts _ c.args.memory.now (g.R.Replica.durable c.args.replica.now) c.args.event.now c.work_out.new.work c.begin-made.result.started l _ _ cut (begun_started c.args.memory.now c.args.time c.args.event.now (record { what = c.begin-made.new.event.what; made = c.begin-made.result }) c.begin-made.ensures c.requires.time)
     (lost_as c.begin-made.result.started c.work_out.new.work.entries c.lost.result l told c.lost.ensures) (c.work_out.ensures.peeks.looked honest).leaves
 
 pub returns-in-Err-Failed-clause-any_moment : goal.returns-in-Err-Failed-clause-any_moment
-returns-in-Err-Failed-clause-any_moment g c = λ honest. look_leaves g.R.Replica.stands_for (core_of c.args.memory.now) (g.R.Replica.durable c.args.replica.now) c.args.event (g.R.Disk.Store.disk (g.R.Replica.disk c.args.replica.now)) (g.R.Disk.Store.disk (g.R.Replica.disk c.work_out.new.replica)) (c.work_out.ensures.peeks.looked honest).leaves
+returns-in-Err-Failed-clause-any_moment g c = λ honest. look_leaves g.R.Replica.stands_for (core_of c.args.memory.now) (g.R.Replica.durable c.args.replica.now) c.args.event.now (g.R.Disk.Store.disk (g.R.Replica.disk c.args.replica.now)) (g.R.Disk.Store.disk (g.R.Replica.disk c.work_out.new.replica)) (c.work_out.ensures.peeks.looked honest).leaves
 
 pub returns-clause-any_moment : goal.returns-clause-any_moment
-returns-clause-any_moment g c = λ honest. look_leaves g.R.Replica.stands_for (core_of c.args.memory.now) (g.R.Replica.durable c.args.replica.now) c.args.event (g.R.Disk.Store.disk (g.R.Replica.disk c.args.replica.now)) (g.R.Disk.Store.disk (g.R.Replica.disk c.work_out.new.replica)) (c.work_out.ensures.peeks.looked honest).leaves
+returns-clause-any_moment g c = λ honest. look_leaves g.R.Replica.stands_for (core_of c.args.memory.now) (g.R.Replica.durable c.args.replica.now) c.args.event.now (g.R.Disk.Store.disk (g.R.Replica.disk c.args.replica.now)) (g.R.Disk.Store.disk (g.R.Replica.disk c.work_out.new.replica)) (c.work_out.ensures.peeks.looked honest).leaves
 
 pub returns-in-Ok-clause-surely : goal.returns-in-Ok-clause-surely
 returns-in-Ok-clause-surely g c = λ l told all. c.keep_made.ensures.surely l told (c.work_out.ensures.peeks.spared all)
