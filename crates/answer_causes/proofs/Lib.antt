@@ -13,3 +13,4 @@ pub mod Numbering
 pub mod Refusing
 pub mod Batching
 pub mod Sending
+pub mod Right

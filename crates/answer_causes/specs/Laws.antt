@@ -9,6 +9,7 @@ use Rattle.answer_causes.specs.Marks.{SeesMarks}
 use Rattle.answer_causes.specs.Numbers.{TellsNumbers}
 use Rattle.answer_causes.specs.Refusals.{RefusesWhere}
 use Rattle.answer_causes.specs.Batches.{SendsNext, SendsThen}
+use Rattle.answer_causes.specs.AnswersRight.{AnswersRight}
 
 abbrev pub EachRequestIsAnsweredOnce : Type 0
 EachRequestIsAnsweredOnce = (c : Setting) (w : World) (run : Run c w) → EachStep AnswersOnce (story c w run)
@@ -39,3 +40,6 @@ AcknowledgementsSendHints = (c : Setting) (w : World) (run : Run c w) → EachSt
 
 abbrev pub HintsGoOutByThese : Type 0
 HintsGoOutByThese = (c : Setting) (w : World) (run : Run c w) → EachStep (SendsThen c) (story c w run)
+
+abbrev pub AnswersAreRight : Type 0
+AnswersAreRight = (c : Setting) (w : World) → Run c w → AnswersRight c w.chronicle

@@ -5,4 +5,5 @@ pub mod Marks
 pub mod Numbers
 pub mod Refusals
 pub mod Batches
+pub mod AnswersRight
 pub mod Laws

@@ -1,7 +1,7 @@
 //! Why clients are told what they are told, over every run of a cluster.
 #![tactic(auto)]
 
-ghost use Rattle.answer_causes.specs.Laws.{EachRequestIsAnsweredOnce, TimeoutsComeAtDeadlines, ReplicasAnswerAtOnce, HintsLeaveByAcknowledgementOrAge, MarksSendHints, RequestsSeeMarks, TimeoutsTellNumbers, RefusalsHaveCauses, AcknowledgementsSendHints, HintsGoOutByThese};
+ghost use Rattle.answer_causes.specs.Laws.{EachRequestIsAnsweredOnce, TimeoutsComeAtDeadlines, ReplicasAnswerAtOnce, HintsLeaveByAcknowledgementOrAge, MarksSendHints, RequestsSeeMarks, TimeoutsTellNumbers, RefusalsHaveCauses, AcknowledgementsSendHints, HintsGoOutByThese, AnswersAreRight};
 
 /// A request is answered once at most, and never one that a stop or a load forgot.
 pub fn each_request_is_answered_once()
@@ -53,4 +53,9 @@ pub fn acknowledgements_send_hints()
 /// A hint goes out by nothing but a mark up and the last acknowledgement.
 pub fn hints_go_out_by_these()
     ensures { HintsGoOutByThese }
+{}
+
+/// In each run, clients are told what they are told for its cause.
+pub fn answers_are_right()
+    ensures { AnswersAreRight }
 {}
