@@ -53,7 +53,11 @@ fn is_ask(what: &What) -> bool
 {
     match what {
         What::Client(_) => true,
-        What::Deliver(_) | What::Alive(..) | What::Flush | What::Tick => false,
+        What::Deliver(_)
+        | What::Alive(..)
+        | What::Collect(_)
+        | What::Flush
+        | What::Tick => false,
     }
 }
 
@@ -304,6 +308,7 @@ impl<R: MemReplica> Parts<R> {
             ClusterEvent::Settle(count) => self.settle(alloc, count),
             ClusterEvent::Clock(node, micros) => self.tick(alloc, node, micros),
             ClusterEvent::Alive(node, peer, up) => self.take(alloc, node, What::Alive(peer, up)),
+            ClusterEvent::Collect(node, request) => self.take(alloc, node, What::Collect(request)),
             ClusterEvent::Crash(node, outcome) => {
                 self.crash(node, outcome);
                 Ok(())
