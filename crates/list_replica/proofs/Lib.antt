@@ -3,6 +3,7 @@ mod Bounds
 mod Coming
 mod Gathering
 mod Growing
+mod HintFits
 mod Items
 mod Keeping
 mod Leaving

@@ -1,5 +1,5 @@
 -- The changes of an entry, partition by partition.
-use Rattle.std.specs.Prelude.{◌≡◌, ◌≢◌, ◌⊎◌, ℕ, ◌<◌, ◌≤◌, ◌^◌, Option, Some, None, List, [], ◌∷◌, ◌++◌, map, Contains}
+use Rattle.std.specs.Prelude.{◌≡◌, ◌≢◌, ◌⊎◌, ℕ, ◌<◌, ◌≤◌, ◌^◌, Option, Some, None, List, [], ◌∷◌, ◌++◌, map, Contains, IsSomeAnd}
 use Rattle.std.specs.List.{filter_map}
 use Rattle.std.specs.BTreeMap.{BTreeMap, get}
 use Rattle.changes.specs.declared.Held.{Held}
@@ -10,7 +10,7 @@ use Rattle.changes.specs.Lengths.{changes_length}
 use Rattle.changes.specs.Order.{partition_cmp}
 use Rattle.changes.specs.Places.{AreInOrder}
 use Rattle.partition_content.specs.Arrivals.{ComeAt, held_of}
-use Rattle.partition_content.specs.Partition.{Partition as Content}
+use Rattle.partition_content.specs.Partition.{Partition as Content, changes_in}
 use Rattle.row_change.specs.declared.entry.LogItem.{LogItem}
 use Rattle.row_change.specs.declared.entry.LogItem.TheVariants.{Data, Paxos, HintAdd, HintGone, Ceiling, Mark, Purge}
 use Rattle.durable_state.specs.Taking.{IsTouched, InOne}
@@ -81,6 +81,14 @@ IsMergedPast held changes = (merged : List Held) → IsMergeOf merged held chang
 -- with these, what is held of the partition has at most 16 MiB
 abbrev pub IsWithin : Map → Staged → Type 0
 IsWithin contents s = IsMergedWithin (held_at contents s.partition) s.changes
+
+-- the same of a partition that is there
+abbrev pub FitsAt : Map → Partition → List Held → Type 0
+FitsAt contents p changes = IsSomeAnd (get partition_cmp contents p) (λ content. IsMergedWithin (changes_in content) changes)
+
+-- it is so of each
+abbrev pub AllFit : Map → List Staged → Type 0
+AllFit contents staged = (s : Staged) → Contains staged s → FitsAt contents s.partition s.changes
 
 -- or it has more
 abbrev pub IsPast : Map → Staged → Type 0

@@ -7,21 +7,16 @@ ghost use Rattle.changes.specs.declared.Held.{Held as held_value};
 ghost use Rattle.changes.specs.declared.Partition.{Partition as partition_value};
 ghost use Rattle.changes.specs.Contents.{IsContent};
 ghost use Rattle.changes.specs.Order.{partition_cmp};
-ghost use Rattle.partition_content.specs.Partition.{changes_in, IsReadyFor};
 ghost use Rattle.durable_state.specs.Taking.{InOne};
 ghost use Rattle.list_replica.specs.Stores.{all_of, IsReadyAt};
-ghost use Rattle.list_replica.specs.Staging.{mutation_of as mutation_in_item, mutations, Brings, IsStagedAt, StagesAt, IsStaging, AreOnce, AreReady, IsMergedWithin, IsMergedPast, IsWithin, IsPast, StaysWithin, GrowsPast, AllStayWithin, IsFirstPast, Comes, AllCome};
+ghost use Rattle.list_replica.specs.Staging.{mutation_of as mutation_in_item, mutations, Brings, IsStagedAt, StagesAt, IsStaging, AreOnce, AreReady, AllFit, IsWithin, IsPast, StaysWithin, GrowsPast, AllStayWithin, IsFirstPast, Comes, AllCome};
 
-use crate::contents::{Contents, reserve, take_in};
+use crate::contents::{Contents, reserve, stays_within, take_in};
 use cell_merge::Content;
-use changes::{Held, Mutation, Partition, encoded_length};
+use changes::{Held, Mutation, Partition};
 use cs_base::Micros;
-use partition_content::PartitionContent;
 use row_change::LogItem;
 use std::alloc::{AllocError, Global};
-
-/// The most bytes of what is held of a partition, as it is stored: 16 MiB.
-const MAX_CONTENT: u64 = 1 << 24;
 
 /// The content of all changes that an entry brings to a partition.
 #[derive(Debug, Drop)]
@@ -53,8 +48,9 @@ fn is_same(a: &Partition, b: &Partition) -> bool
 fn copy_onto(changes: &mut Vec<Held>, alloc: Global, more: &[Held]) -> Result<(), AllocError>
     ensures { OnOk result (changes.new.items ≡ changes.old.items ++ more.now) }
 {
+    changes.reserve(more.len())?;
     for held in more {
-        changes.push(held.copy(alloc)?)?;
+        changes.push_reserved(held.copy(alloc)?);
     }
     Ok(())
 }
@@ -129,38 +125,25 @@ pub fn stage(alloc: Global, items: &[LogItem]) -> Result<Vec<Staged>, AllocError
     Ok(staged)
 }
 
-/// Takes the memory that `take_all` needs for these changes.
+/// Takes the memory that `take_all` needs for these changes, and tells whether what is held of each partition stays within
+/// 16 MiB with them.
 pub fn reserve_all(
     contents: &mut Contents,
     alloc: Global,
     staged: &[Staged],
-) -> Result<(), AllocError>
+) -> Result<bool, AllocError>
     requires ordered { IsOrdered partition_cmp contents.old }
     requires once { AreOnce staged.now }
     ensures ready { OnOk result (AreReady contents.new staged.now) }
+    ensures within { IfOk result (λ within. IsTrue within → AllFit contents.new staged.now) }
     ensures stored { all_of contents.new.entries ≡ all_of contents.old.entries }
     ensures ordered { IsOrdered partition_cmp contents.new }
 {
+    let mut within = true;
     for changes in staged {
-        reserve(contents, alloc, &changes.partition, &changes.changes)?;
+        within &= reserve(contents, alloc, &changes.partition, &changes.changes)?;
     }
-    Ok(())
-}
-
-/// Whether a content stays within 16 MiB with these changes. Mostly it does with all of them, whatever they take the place of,
-/// which costs no look at the content.
-fn stays_within(content: &PartitionContent, changes: &Content) -> bool
-    requires { IsReadyFor content.now changes.now }
-    ensures within { IsTrue result → IsMergedWithin (changes_in content.now) changes.now }
-    ensures past { result ≡ false → IsMergedPast (changes_in content.now) changes.now }
-{
-    let most = content
-        .encoded_length()
-        .saturating_add(encoded_length(changes.as_slice()));
-    if most <= MAX_CONTENT {
-        return true;
-    }
-    content.length_with(changes) <= MAX_CONTENT
+    Ok(within)
 }
 
 /// Whether what is held of a partition stays within 16 MiB with its changes.
@@ -191,7 +174,7 @@ fn fits_at(contents: &Contents, staged: &[Staged], partition: &Partition) -> boo
 }
 
 /// The first partition of the items of which too much would be held.
-pub fn first_past<'a>(
+fn first_past<'a>(
     contents: &Contents,
     staged: &[Staged],
     items: &'a [LogItem],
@@ -209,6 +192,25 @@ pub fn first_past<'a>(
         }
     }
     None
+}
+
+/// The same, where it may be known that each of them stays within: then nothing is looked up.
+pub fn first_large<'a>(
+    contents: &Contents,
+    staged: &[Staged],
+    items: &'a [LogItem],
+    within: bool,
+) -> Option<&'a Partition>
+    requires staging { IsStaging items.now staged.now }
+    requires ready { AreReady contents.now staged.now }
+    requires within { IsTrue within → AllFit contents.now staged.now }
+    ensures none { IfNone result (AllStayWithin contents.now staged.now items.now) }
+    ensures some { IfSome result (λ p. IsFirstPast contents.now staged.now items.now p.now) }
+{
+    if within {
+        return None;
+    }
+    first_past(contents, staged, items)
 }
 
 /// Takes the changes of a partition in at a node time.

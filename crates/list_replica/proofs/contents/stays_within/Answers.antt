@@ -2,7 +2,7 @@ use Rattle.std.proofs.Common.{ap, arith}
 use Rattle.changes.specs.Lengths.{changes_length}
 use Rattle.partition_content.specs.Partition.{changes_in}
 use Rattle.list_replica.proofs.Bounds.{merged_most}
-use Rattle.list_replica.proofs.staging.stays_within.Goals as goal
+use Rattle.list_replica.proofs.contents.stays_within.Goals as goal
 
 pub returns-then-most-le-MAX_CONTENT-clause-within : goal.returns-then-most-le-MAX_CONTENT-clause-within
 returns-then-most-le-MAX_CONTENT-clause-within c told merged content ordered =
