@@ -164,6 +164,7 @@ line_spares book keyspace k (line.Deliver place) e other is = spares_by k e _ is
 line_spares book keyspace k (line.Drop place) e other is = spares_by k e _ is tt
 line_spares book keyspace k (line.Settle count) e other is = spares_by k e _ is tt
 line_spares book keyspace k (line.Clock node micros) e other is = spares_by k e _ is tt
+line_spares book keyspace k (line.Mark node peer up) e other is = spares_by k e _ is tt
 line_spares book keyspace k (line.Crash node outcome) e other is = spares_by k e _ is (eqb-false node k other)
 line_spares book keyspace k (line.StopAt node call outcome) e other is = spares_by k e _ is (eqb-false node k other)
 line_spares book keyspace k (line.FailAt node call) e other is = spares_by k e _ is (eqb-false node k other)

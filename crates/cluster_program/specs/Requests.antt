@@ -126,6 +126,7 @@ IsEventOf book keyspace (line.Deliver place) e = e ≡ cluster.Deliver place.fro
 IsEventOf book keyspace (line.Drop place) e = e ≡ cluster.Lose place.from place.upto place.number
 IsEventOf book keyspace (line.Settle count) e = e ≡ cluster.Settle count
 IsEventOf book keyspace (line.Clock node micros) e = e ≡ cluster.Clock node micros
+IsEventOf book keyspace (line.Mark node peer up) e = e ≡ cluster.Alive node peer up
 IsEventOf book keyspace (line.Crash node outcome) e = e ≡ cluster.Crash node outcome
 IsEventOf book keyspace (line.StopAt node call outcome) e = e ≡ cluster.StopAt node call outcome
 IsEventOf book keyspace (line.FailAt node call) e = e ≡ cluster.FailAt node call

@@ -1,14 +1,12 @@
 //! What the lines of a script ask of a cluster.
 
-ghost use Rattle.std.specs.Prelude.{◌≡◌, ◌≤◌, ℕ, List, map, IfOk, option_copied};
-ghost use Rattle.cql_statement.specs.declared.statement.Statement.{Statement as statement_value};
-ghost use Rattle.fault_script.specs.Script.{IsOneStatement, IsSaid};
+ghost use Rattle.std.specs.Prelude.{◌≡◌, ◌≤◌, map, IfOk, option_copied};
+ghost use Rattle.fault_script.specs.Script.{IsSaid};
 ghost use Rattle.cluster_program.specs.Requests.{table_setting, setting_of as setting_of_script, asked_of, IsAskedBy, AsksAt, AsksBy, IsEventOf};
 ghost use Rattle.cluster_program.specs.Lines.{ArePrepared, HasKv, IsEventBy};
 
 use crate::statements::{LineStatements, get_values, put_values, text_is_read, timestamp_is_read};
 use cluster_model::ClusterEvent;
-use cql_parser::{ParseError, parse};
 use cql_statement::Statement;
 use cs_base::{Items, Level, Micros, NodeId};
 use fault_script::{CqlRequest, GetRequest, PutRequest, Script, ScriptEvent};
@@ -99,18 +97,6 @@ fn ask_for(
     ask_by(bound, node, level)
 }
 
-/// The statement of a line `cql`, whose text was read as one before.
-fn statement_of(alloc: Global, text: &str) -> Result<Statement, AllocError>
-    requires { (s : statement_value) × IsOneStatement text.now s }
-    ensures { IfOk result (IsOneStatement text.now) }
-{
-    match parse(alloc, text) {
-        Ok(statement) => Ok(statement),
-        Err(ParseError::NoMemory) => Err(AllocError),
-        Err(_) => unreachable!(),
-    }
-}
-
 fn cql_event(
     alloc: Global,
     schema: &Schema,
@@ -120,14 +106,13 @@ fn cql_event(
     requires { IsSaid (ScriptEvent.Cql request.now) }
     ensures { IfOk result (IsEventOf schema.now (option_copied keyspace.entry) (ScriptEvent.Cql request.now)) }
 {
-    let statement = statement_of(alloc, request.text.as_str())?;
     ask_for(
         alloc,
         schema,
         keyspace,
         request.node,
         request.level,
-        &statement,
+        &request.statement,
     )
 }
 
@@ -186,6 +171,7 @@ pub fn event_of(
         ScriptEvent::Drop(place) => Ok(ClusterEvent::Lose(place.from, place.upto, place.number)),
         ScriptEvent::Settle(count) => Ok(ClusterEvent::Settle(*count)),
         ScriptEvent::Clock(node, micros) => Ok(ClusterEvent::Clock(*node, *micros)),
+        ScriptEvent::Mark(node, peer, up) => Ok(ClusterEvent::Alive(*node, *peer, *up)),
         ScriptEvent::Crash(node, outcome) => Ok(ClusterEvent::Crash(*node, *outcome)),
         ScriptEvent::StopAt(node, call, outcome) => {
             Ok(ClusterEvent::StopAt(*node, *call, *outcome))

@@ -1,6 +1,10 @@
 mod Ordered
 mod Sending
 mod Slots
+mod LeftOpen
+mod DueKeys
+mod Passing
+mod Hinting
 mod Asking
 mod Bodies
 mod Reading

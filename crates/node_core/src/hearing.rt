@@ -12,11 +12,11 @@ ghost use Rattle.durable_state.specs.Partitions.{is_partition};
 ghost use Rattle.durable_state.specs.State.{changes_of};
 ghost use Rattle.node_steps.specs.Replicas.{IsAnswerTo};
 ghost use Rattle.row_change.specs.declared.entry.LogItem.TheVariants.{Data};
-ghost use Rattle.peer_messages.specs.declared.message.Body.TheVariants.{WriteAck};
 ghost use Rattle.node_steps.specs.Effects.{outbound};
 ghost use Rattle.node_core.specs.Working.{effects_given, IsSlotOf, IsDataAt, IsSound, BodyFits, IsOwn};
 ghost use Rattle.node_core.specs.Hearing.{AckMoves, ReplyMoves};
-ghost use Rattle.node_core.specs.Moving.{replies, AnswersBehind, IsBehind, IsBehindItem, AreBehind, IsReadFor, HasPart, TakesBody, heard_from, IsHeard, GoesBy, Peeks};
+ghost use Rattle.node_core.specs.Hinting.{at};
+ghost use Rattle.node_core.specs.Moving.{replies, AnswersBehind, IsBehind, IsBehindItem, AreBehind, IsReadFor, HasPart, TakesBody, left_writes, left_reads, heard_from, IsHolding, IsOfOther, IsHeard, GoesBy, Peeks};
 ghost use Rattle.replica.specs.declared.error.CallError.TheVariants as call_error;
 
 use crate::base::Base;
@@ -26,6 +26,7 @@ use crate::work::{Given, Work};
 use cell_merge::Content;
 use changes::{Held, Helds, Mutation, Partition, Query};
 use cs_base::{Bytes, Items, Micros, NodeId, ReqId};
+use hint_store::HintStore;
 use peer_messages::{Body, Outbound};
 use replica::{CallError, Replica};
 use row_change::LogItem;
@@ -174,7 +175,11 @@ fn read_for<R: Replica>(
 {
     match body {
         Body::Read(query) => Ok(Some(answer(replica, alloc, items, query)?)),
-        Body::Write(_) | Body::WriteAck | Body::ReadReply(_) => Ok(None),
+        Body::Write(_)
+        | Body::WriteAck
+        | Body::ReadReply(_)
+        | Body::Hint(..)
+        | Body::HintAck(_) => Ok(None),
     }
 }
 
@@ -219,28 +224,31 @@ fn moved(alloc: Global, mutation: &mut Mutation) -> Mutation
 }
 
 impl Work {
-    /// Takes changes in: they are kept with the step, and acknowledged.
-    fn hear_write(
+    /// Takes changes in: they are kept with the step, and acknowledged by this.
+    fn take_changes(
         &mut self,
         alloc: Global,
         asker: Asker,
         mutation: &mut Mutation,
+        ack: Body,
     ) -> Result<Given, AllocError>
-        ensures { IfOk result (λ given. (effects_given given ≡ replies asker WriteAck) × (self.new ≡ record self.old { items = self.old.items ++ Data self.old.time mutation.old ∷ [] })) }
+        ensures { IfOk result (λ given. (effects_given given ≡ replies asker ack) × (self.new ≡ record self.old { taken = self.old.taken ++ Data self.old.time mutation.old ∷ [] })) }
     {
         let mutation = moved(alloc, mutation);
-        self.items.push(LogItem::Data(self.time, mutation))?;
-        reply(alloc, asker, Body::WriteAck)
+        self.taken.push(LogItem::Data(self.time, mutation))?;
+        reply(alloc, asker, ack)
     }
 
     fn hear_ack(&mut self, base: &Base, alloc: Global, asker: Asker) -> Result<Given, AllocError>
         requires ordered { IsOrdered request_cmp base.now.writes }
-        requires slot { IsSlotOf asker.request base.now.writes.entries self.old.write }
-        ensures { IfOk result (λ given. AckMoves base.now.setting asker.request asker.from base.now.writes.entries self.old.write given self.new.write × (self.new ≡ record self.old { write = self.new.write })) }
+        requires slot { IsSlotOf asker.request (left_writes base.now self.old) self.old.write }
+        ensures { IfOk result (λ given. AckMoves base.now.setting asker.request asker.from (left_writes base.now self.old) self.old.write given self.new.write × (self.new ≡ record self.old { write = self.new.write })) }
     {
+        let ended = self.ended_writes.as_slice();
         let slot = &mut self.write;
         hear_ack(
             &base.writes,
+            ended,
             slot,
             alloc,
             &base.setting,
@@ -257,13 +265,15 @@ impl Work {
         content: &mut Content,
     ) -> Result<Given, AllocError>
         requires ordered { IsOrdered request_cmp base.now.reads }
-        requires slot { IsSlotOf asker.request base.now.reads.entries self.old.read }
-        ensures { IfOk result (λ given. ReplyMoves base.now.setting asker.request asker.from content.old base.now.reads.entries self.old.read given self.new.read × (self.new ≡ record self.old { read = self.new.read })) }
+        requires slot { IsSlotOf asker.request (left_reads base.now self.old) self.old.read }
+        ensures { IfOk result (λ given. ReplyMoves base.now.setting asker.request asker.from content.old (left_reads base.now self.old) self.old.read given self.new.read × (self.new ≡ record self.old { read = self.new.read })) }
     {
         let content = mem::replace(content, Content::new(alloc));
+        let ended = self.ended_reads.as_slice();
         let slot = &mut self.read;
         hear_reply(
             &base.reads,
+            ended,
             slot,
             alloc,
             &base.setting,
@@ -277,6 +287,7 @@ impl Work {
     fn hear_body(
         &mut self,
         base: &Base,
+        hints: &mut HintStore,
         alloc: Global,
         asker: Asker,
         body: &mut Body,
@@ -284,19 +295,25 @@ impl Work {
     ) -> Result<Given, AllocError>
         requires writes { IsOrdered request_cmp base.now.writes }
         requires reads { IsOrdered request_cmp base.now.reads }
-        requires write { IsSlotOf asker.request base.now.writes.entries self.old.write }
-        requires read { IsSlotOf asker.request base.now.reads.entries self.old.read }
+        requires write { IsSlotOf asker.request (left_writes base.now self.old) self.old.write }
+        requires read { IsSlotOf asker.request (left_reads base.now self.old) self.old.read }
         requires part { HasPart body.old part }
-        ensures { IfOk result (λ given. TakesBody base.now self.old asker body.old part given self.new) }
+        ensures ok { IfOk result (λ given. TakesBody base.now (at self.old hints.old.now) asker body.old part given (at self.new hints.new.now)) }
+        ensures before { hints.new.before ≡ hints.old.before }
     {
         match body {
-            Body::Write(mutation) => self.hear_write(alloc, asker, mutation),
+            Body::Write(mutation) => self.take_changes(alloc, asker, mutation, Body::WriteAck),
             Body::WriteAck => self.hear_ack(base, alloc, asker),
             Body::Read(_) => match part {
                 Some(part) => reply(alloc, asker, Body::ReadReply(part)),
                 None => unreachable!(),
             },
             Body::ReadReply(content) => self.hear_reply(base, alloc, asker, content),
+            Body::Hint(number, mutation) => {
+                let ack = Body::HintAck(*number);
+                self.take_changes(alloc, asker, mutation, ack)
+            }
+            Body::HintAck(number) => self.hear_hint_ack(base, hints, alloc, asker.from, *number),
         }
     }
 }
@@ -304,6 +321,7 @@ impl Work {
 /// Hears a body of a request that began at this time, and moves what it has, unless it is too old.
 pub(crate) fn hear<R: Replica>(
     base: &Base,
+    hints: &mut HintStore,
     replica: &mut R,
     alloc: Global,
     work: &mut Work,
@@ -312,12 +330,13 @@ pub(crate) fn hear<R: Replica>(
     body: &mut Body,
 ) -> Result<Given, CallError>
     requires whole { R.is_whole replica.old }
-    requires writes { IsOrdered request_cmp base.now.writes }
-    requires reads { IsOrdered request_cmp base.now.reads }
+    requires holding { IsHolding base.now }
     requires sound { IsSound base.now work.old }
     requires request { asker.request ≡ work.old.request }
     requires fits { BodyFits body.old }
-    ensures ok { IfOk result (λ given. IsHeard base.now R.Disk.is_honest (R.durable replica.old) work.old (heard_from asker born body.old) given work.new) }
+    requires other { IsOfOther base.now.me asker.from body.old }
+    ensures ok { IfOk result (λ given. IsHeard base.now R.Disk.is_honest (R.durable replica.old) (at work.old hints.old.now) (heard_from asker born body.old) given (at work.new hints.new.now)) }
+    ensures before { hints.new.before ≡ hints.old.before }
     ensures same { IsErrOf result call_error.Failed → work.new ≡ work.old }
     ensures peeks { Peeks R.stands_for (λ r. R.Disk.disk (R.disk r)) R.durable R.log_end (λ r. R.Disk.faults (R.disk r)) (λ r n. R.Disk.spares (R.disk r) n) R.Disk.is_honest replica.old replica.new }
     ensures whole { (IsErrOf result call_error.Failed → ⊥) → R.is_whole replica.new }
@@ -327,24 +346,25 @@ pub(crate) fn hear<R: Replica>(
     if is_old(&base.setting, work.time, born) {
         return Ok(Given::nothing(alloc));
     }
-    let part = read_for(replica, alloc, work.items.as_slice(), body)?;
-    Ok(work.hear_body(base, alloc, asker, body, part)?)
+    let part = read_for(replica, alloc, work.taken.as_slice(), body)?;
+    Ok(work.hear_body(base, hints, alloc, asker, body, part)?)
 }
 
 /// Hears a body that the node sent to itself, which was taken from the queue, and moves what it has.
 pub(crate) fn hear_own<R: Replica>(
     base: &Base,
+    hints: &mut HintStore,
     replica: &mut R,
     alloc: Global,
     work: &mut Work,
     sent: &mut Outbound,
 ) -> Result<(), CallError>
     requires whole { R.is_whole replica.old }
-    requires writes { IsOrdered request_cmp base.now.writes }
-    requires reads { IsOrdered request_cmp base.now.reads }
+    requires holding { IsHolding base.now }
     requires sound { IsSound base.now work.old }
     requires own { IsOwn base.now.me work.old.request sent.old }
-    ensures ok { OnOk result (GoesBy base.now R.Disk.is_honest (R.durable replica.old) sent.old work.old work.new) }
+    ensures ok { OnOk result (GoesBy base.now R.Disk.is_honest (R.durable replica.old) sent.old (at work.old hints.old.now) (at work.new hints.new.now)) }
+    ensures before { hints.new.before ≡ hints.old.before }
     ensures same { IsErrOf result call_error.Failed → work.new ≡ work.old }
     ensures peeks { Peeks R.stands_for (λ r. R.Disk.disk (R.disk r)) R.durable R.log_end (λ r. R.Disk.faults (R.disk r)) (λ r n. R.Disk.spares (R.disk r) n) R.Disk.is_honest replica.old replica.new }
     ensures whole { (IsErrOf result call_error.Failed → ⊥) → R.is_whole replica.new }
@@ -355,6 +375,7 @@ pub(crate) fn hear_own<R: Replica>(
         from: base.me,
         request: sent.request,
     };
-    let given = hear(base, replica, alloc, work, asker, sent.born, &mut sent.body)?;
+    let born = sent.born;
+    let given = hear(base, hints, replica, alloc, work, asker, born, &mut sent.body)?;
     Ok(work.give(base.me, given)?)
 }

@@ -4,6 +4,7 @@ ghost use Rattle.std.specs.Prelude.{◌≡◌, ◌≤◌, ◌<◌, ℕ, [], true
 ghost use Rattle.cs_base.specs.Faults.{HasRisen};
 ghost use Rattle.cs_store.specs.Disk.{IsSettled};
 ghost use Rattle.durable_state.specs.State.{Durable, IsSameKept};
+ghost use Rattle.node_steps.specs.Holding.{HoldsFit};
 ghost use Rattle.node_steps.specs.State.{loaded};
 ghost use Rattle.node_steps.specs.Steps.{risen_time, end_of_time};
 ghost use Rattle.node_steps.specs.Stops.{remains};
@@ -11,16 +12,17 @@ ghost use Rattle.replica.specs.Finding.{AlwaysLeaves};
 ghost use Rattle.replica.specs.Kept.{IsKeptOf};
 ghost use Rattle.replica.specs.declared.error.LoadError.TheVariants as load_error;
 ghost use Rattle.node_core.specs.Nodes.{state_with, Steps, WouldKeep, HasRoom, HasNoRoom, IsTooLarge, Halts, IsBeforeOrBehind};
-ghost use Rattle.node_core.specs.Memory.{has_stopped as has_stopped_of};
+ghost use Rattle.node_core.specs.Memory.{has_stopped as has_stopped_of, IsLoaded};
 ghost use Rattle.node_core.specs.declared.outcome.StepError.TheVariants as step_error;
 
 use crate::base::Base;
 use crate::memory::{Memory, advance};
 use crate::outcome::{Lost, StepError};
 use cs_base::{Items, NodeId};
+use hint_store::HintStore;
 use peer_messages::{Event, Outputs, Setting};
 use replica::{Kept, LoadError, Replica};
-use std::alloc::Global;
+use std::alloc::{AllocError, Global};
 use std::collections::BTreeMap;
 use std::marker::Model;
 
@@ -39,7 +41,7 @@ impl Model for NodeCore {
 
     ghost view = { λ a. record (core_of a.memory) { runs = a.runs } };
 
-    ghost invariant = { λ a. HoldsCore a.memory.base a.memory.time };
+    ghost invariant = { λ a. HoldsCore a.memory };
 }
 
 /// A node: what it has in memory, and what keeps its durable state.
@@ -63,21 +65,47 @@ impl NodeCore {
         self.memory.base.down.as_slice()
     }
 
-    fn loaded(alloc: Global, me: NodeId, setting: Setting, kept: Kept) -> NodeCore
-        ensures { result ≡ record { setting = setting; me = me; runs = true; time = kept.ceiling; risen = kept.ceiling; kept = kept; down = []; writes = []; reads = [] } }
+    fn loaded(
+        alloc: Global,
+        me: NodeId,
+        setting: Setting,
+        kept: Kept,
+    ) -> Result<NodeCore, AllocError>
+        ensures { IfOk result (λ core. IsLoaded me setting kept core) }
     {
-        let time = kept.ceiling;
+        let Kept {
+            ceiling,
+            rows,
+            hints,
+            numbers,
+            marks,
+        } = kept;
+        let hints = HintStore::restore(alloc, hints, numbers.as_slice())?;
+        let kept = Kept {
+            ceiling,
+            rows,
+            hints: Items::new(alloc),
+            numbers: Items::new(alloc),
+            marks,
+        };
         let base = Base {
             setting,
             me,
             down: Items::new(alloc),
+            batches: Items::new(alloc),
             writes: BTreeMap::new(alloc),
             reads: BTreeMap::new(alloc),
+            unanswered: 0,
         };
-        NodeCore {
-            memory: Memory { base, time, kept },
+        Ok(NodeCore {
+            memory: Memory {
+                base,
+                time: ceiling,
+                kept,
+                hints,
+            },
             runs: true,
-        }
+        })
     }
 
     fn step<R: Replica>(
@@ -134,6 +162,7 @@ impl<R: Replica> Node<R> {
         ensures core { IfOk result (λ n. (n.core.me ≡ me) × (n.core.setting ≡ setting) × (n.core.runs ≡ true)) }
         ensures tied { IfOk result (λ n. R.Disk.is_honest → IsKeptOf (R.durable n.replica) n.core.kept) }
         ensures whole { IfOk result (λ n. R.is_whole n.replica) }
+        ensures fits { IfOk result (λ n. R.Disk.is_honest → HoldsFit (state_with n.core (R.durable n.replica))) }
 
         // A crash at any moment leaves what was there.
         ensures any_moment { IfOk result (λ n. R.Disk.is_honest → (d : Durable) → R.stands_for (R.Disk.disk store).seen d → AlwaysLeaves R.stands_for (IsSameKept d) (R.Disk.disk store) (R.Disk.disk (R.disk n.replica))) }
@@ -145,10 +174,10 @@ impl<R: Replica> Node<R> {
         ensures surely { ((n : ℕ) → R.Disk.spares store n) → ((s : _) → IsErrOf result (load_error.Failed s) → ⊥) × IfOk result (λ l. (n : ℕ) → R.Disk.spares (R.disk l.replica) n) }
     {
         let (replica, kept) = R::load(alloc, store)?;
-        Ok(Node {
-            core: NodeCore::loaded(alloc, me, setting, kept),
-            replica,
-        })
+        match NodeCore::loaded(alloc, me, setting, kept) {
+            Ok(core) => Ok(Node { core, replica }),
+            Err(_) => Err(LoadError::NoMemory(replica.release())),
+        }
     }
 
     /// Takes an event.
