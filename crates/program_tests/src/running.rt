@@ -113,14 +113,6 @@ fn answers_scripts_of_three_nodes(rt: HostRuntime) -> Result<(), Fail> {
             "put 0 ALL k a 5 x\nput 1 ALL k a 4 old\nsettle 100\nget 2 ALL k\nsettle 100\n",
             "1 ok\n2 ok\n3 rows 1\n 'a' | 'x'\n",
         ),
-        (
-            "mark 0 1 down\nmark 0 2 down\nput 0 QUORUM k a 5 x\nput 0 ONE k a 5 x\n",
-            "1 unavailable required 2 alive 1\n2 ok\n",
-        ),
-        (
-            "mark 0 1 down\nmark 0 2 down\nmark 0 1 up\nput 0 QUORUM k a 5 x\nput 1 ALL k a 5 x\ndeliver 0 1 1\ndeliver 1 0 2\n",
-            "1 ok\n",
-        ),
     ];
     for (lines, want) in cases {
         let ended = of_three_nodes(rt.alloc(), lines)?;

@@ -51,7 +51,7 @@ fn sees_marks(rt: HostRuntime) -> Result<(), Fail> {
             "1 unavailable required 2 alive 1\n2 ok\n",
         ),
         (
-            "mark 0 1 down\nmark 0 2 down\nmark 0 1 up\nput 0 QUORUM k a 5 x\nsettle 100\n",
+            "mark 0 1 down\nmark 0 2 down\nmark 0 1 up\nput 0 QUORUM k a 5 x\nput 1 ALL k a 5 x\ndeliver 0 1 1\ndeliver 1 0 2\n",
             "1 ok\n",
         ),
         // another node's marks are its own, and a restart forgets them
