@@ -113,6 +113,6 @@ fn refuses_too_many(rt: HostRuntime) -> Result<(), Fail> {
     }
     let ended = of_three_nodes(rt.alloc(), lines.as_str())?;
     assert_eq!(rt; ended.status, Status::Ok);
-    assert_eq!(rt; ended.text.as_slice(), b"1025 overloaded\n");
+    assert_eq!(rt; ended.text.as_slice(), "1025 overloaded\n".as_bytes());
     Ok(())
 }
