@@ -1,0 +1,7 @@
+mod GivenLaws
+pub mod CellLaws
+mod EntryLaws
+pub mod PageStarts
+pub mod PageRuns
+mod Moves
+mod Comings
