@@ -85,8 +85,7 @@ grows_by : (s : State) (es : List BatchEntry) (i : ℕ) (d : BatchEntry) (before
     → (qs : List Prepared) × AreStatements s (take (i + 1) es) qs × (more ≡ changes_of qs)
 grows_by s es i d before more c below is (p, stands, same) e ps are was =
     let P : List BatchEntry → Type 0 = λ xs. AreStatements s xs (ps ++ p ∷ []) in
-    let front : take (i + 1) es ≡ take i es ++ d ∷ [] = take_more es i d below ∙ ap (λ (x : BatchEntry). take i es ++ x ∷ []) (sym is) in
-    (
+    let front : take (i + 1) es ≡ take i es ++ d ∷ [] = take_more es i d below ∙ ap (λ (x : BatchEntry). take i es ++ x ∷ []) (sym is) in (
       ps ++ p ∷ [],
       subst P (sym front) (statements_append s (take i es) d ps p are stands),
       e ∙ (ap (λ (b : Option (List Change)). with_last b c) was ∙ (ap (with_last (changes_of ps)) same ∙ sym (changes_append ps p))),

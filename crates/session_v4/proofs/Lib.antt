@@ -5,3 +5,4 @@ pub mod PageStarts
 pub mod PageRuns
 mod Moves
 mod Comings
+pub mod Staying

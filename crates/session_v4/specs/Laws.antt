@@ -8,6 +8,7 @@ use Rattle.request_bodies.specs.declared.request.Execute.{Execute}
 use Rattle.request_bodies.specs.declared.request.Request.TheVariants as requests
 use Rattle.request_bodies.specs.declared.startup.StringPair.{StringPair}
 use Rattle.response_bodies.specs.declared.metadata.Prepared.{Prepared}
+use Rattle.response_bodies.specs.declared.response.Response.{Response}
 use Rattle.response_bodies.specs.declared.response.Response.TheVariants as responses
 use Rattle.session_v4.specs.Kept.{id_of, kept_at}
 use Rattle.session_v4.specs.Sessions.{State, IsDue, IsTakenDue, IsPrepareDue, IsQueryDue, IsExecuteDue}
@@ -49,3 +50,7 @@ SameAsked =
     → (stream : ℤ) (q : QueryParameters) (a : Act) (s'' : State)
     → IsExecuteDue s' stream (record { id = id_of s.used text; parameters = q }) a s''
     → IsQueryDue s' stream (record { query = text; parameters = q }) a s''
+
+-- what is due for a frame leaves the connection open: what is due for bytes that are no frames alone closes it
+abbrev pub StaysOpen : Type 0
+StaysOpen = (s s' : State) (f : Frame) (r : Response) → IsDue s f (acts.Close r) s' → ⊥

@@ -1,6 +1,6 @@
 //! What is so of each connection, which each call of a function of this module gives to its caller.
 
-ghost use Rattle.session_v4.specs.Laws.{FewKept, KeyspaceIsTold, NothingBefore, NothingUnknown, SameAsked, StartsOnce};
+ghost use Rattle.session_v4.specs.Laws.{FewKept, KeyspaceIsTold, NothingBefore, NothingUnknown, SameAsked, StartsOnce, StaysOpen};
 ghost use Rattle.session_v4.specs.PageLaws.{PagesBegin, PagesGoOn};
 
 /// A STARTUP is answered with READY once.
@@ -41,4 +41,9 @@ pub fn pages_begin_behind_a_row()
 /// The pages of a read, one after another, show each row of the unpaged read once.
 pub fn pages_go_on()
     ensures { PagesGoOn }
+{}
+
+/// A frame leaves its connection open: bytes that are no frames alone close it.
+pub fn frames_leave_connections_open()
+    ensures { StaysOpen }
 {}

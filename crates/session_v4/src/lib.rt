@@ -20,9 +20,9 @@ mod words;
 
 pub use act::Act;
 pub use laws::{
-    connections_start_once, few_statements_are_kept, keyspaces_are_told,
-    nothing_is_asked_before_startup, nothing_unknown_is_asked, pages_begin_behind_a_row,
-    pages_go_on, prepared_statements_ask_the_same,
+    connections_start_once, few_statements_are_kept, frames_leave_connections_open,
+    keyspaces_are_told, nothing_is_asked_before_startup, nothing_unknown_is_asked,
+    pages_begin_behind_a_row, pages_go_on, prepared_statements_ask_the_same,
 };
 pub use paging::query_behind;
 pub use refusals::stream_of;
