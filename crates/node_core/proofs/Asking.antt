@@ -18,15 +18,16 @@ use Rattle.peer_messages.specs.declared.chronicle.Invalid.TheVariants as reason
 use Rattle.peer_messages.specs.declared.chronicle.Refusal.{Refusal}
 use Rattle.peer_messages.specs.declared.event.Plan.{Plan}
 use Rattle.peer_messages.specs.declared.event.Plan.TheVariants.{Write, Read}
+use Rattle.peer_messages.specs.declared.outcome.Move.{Move}
 use Rattle.peer_messages.specs.declared.outcome.Outbound.{Outbound}
 use Rattle.durable_state.specs.State.{Durable}
 use Rattle.node_steps.specs.State.{NodeState, OpenWrite, OpenRead}
-use Rattle.node_steps.specs.Effects.{Effects}
+use Rattle.node_steps.specs.Effects.{Effects, effects_of}
 use Rattle.node_steps.specs.Fitting.{write_fits, query_fits}
 use Rattle.node_steps.specs.Hints.{KeptHints, push_hints, pushed_hints, with_room}
 use Rattle.node_steps.specs.Keeping.{add_item, hints_of_plan}
 use Rattle.node_steps.specs.Requests.{is_overloaded, refusal_of, refusal_at, unanswered_writes, BeginsOrRefuses}
-use Rattle.node_steps.specs.Writes.{down_at, started_write}
+use Rattle.node_steps.specs.Writes.{down_at, start_write, started_write}
 use Rattle.node_steps.specs.Reads.{started_read}
 use Rattle.hint_store.specs.Staged.{IsSameHints}
 use Rattle.hint_store.proofs.Same.{same_pushed_all, same_pushes, same_room, same_trans}
@@ -35,7 +36,7 @@ use Rattle.node_core.specs.declared.slot.Slot.{Slot}
 use Rattle.node_core.specs.declared.slot.Slot.TheVariants.{New}
 use Rattle.node_core.specs.declared.work.Given.{Given}
 use Rattle.node_core.specs.declared.work.Work.{Work}
-use Rattle.node_core.specs.Hinting.{Stage, at}
+use Rattle.node_core.specs.Hinting.{Stage, at, LeavesHints}
 use Rattle.node_core.specs.Moving.{left_writes, left_reads}
 use Rattle.node_core.specs.Working.{IsCounted, effects_given, state_at, with_slot, down_with}
 use Rattle.node_core.specs.Asking.{Asked, AsksAs, AsksWrite, AsksRead, TellsEntry, IsUnmoved}
@@ -160,9 +161,30 @@ write_begun b x x' l d m fits o g is_made fit decides is asks u counted k same =
           ∙ ap (λ (hs : List hint.Hint). w.made ++ map add_item hs) (same_pushed_all asks.hinted k x.hints same born made ∙ ap (λ (ps : List ℕ). pushed_hints ps born made k) as_told);
       begins = λ e.
           let s = state_at b k e w in
-          subst (λ (r : Option Refusal). BeginsOrRefuses b.setting w.request (Write d) l r s (effects_given g) (state_at b (push_hints hinted born made k) e x'.work)) (sym (why e))
-          (asks.gives,
-           opened_write b w x'.work k (push_hints hinted born made k) e (started_write w.request l d asks.hinted) asks.mid.work.made u opened
-               ∙ ap (λ (ps : List ℕ). let t : NodeState = record s { hints = (push_hints hinted born made k).hints; numbers = (push_hints hinted born made k).numbers; writes = insert_entry request_cmp s.writes w.request (started_write w.request l d ps) } in t) as_told);
+          subst (λ (r : Option Refusal). BeginsOrRefuses b.setting w.request (Write d) l r s (effects_given g) (state_at b (push_hints hinted born made k) e x'.work)) (sym (why e)) (
+            asks.gives,
+            opened_write b w x'.work k (push_hints hinted born made k) e (started_write w.request l d asks.hinted) asks.mid.work.made u opened
+                ∙ ap (λ (ps : List ℕ). let t : NodeState = record s { hints = (push_hints hinted born made k).hints; numbers = (push_hints hinted born made k).numbers; writes = insert_entry request_cmp s.writes w.request (started_write w.request l d ps) } in t) as_told,
+          );
       are = λ e. ap (λ (r : Option Refusal). hints_of_plan b.setting w.request (Write d) r (state_at b k e w)) (why e);
+    }
+
+-- ---- a write that begins, call by call
+
+pub write_starts : (b : Base) (l : Level) (d : DraftMutation) (x mid : Stage) (hinted : List ℕ) (o : OpenWrite) (turn : Move) (g : Given) (down : List ℕ) → hinted ≡ with_room x.hints (down_at b.setting (down_with x.work.marked b.down) d) → LeavesHints hinted x.work.request.time (mutation_of x.work.request d) x mid
+    → o ≡ started_write x.work.request l d hinted → down ≡ down_with mid.work.marked b.down → turn ≡ start_write b.setting down mid.work.request d → g.sends ≡ turn.sends → g.entries ≡ turn.entries → AsksWrite b l d x (at (record mid.work { write = New o }) mid.hints) g
+write_starts b l d x mid hinted o turn g down room leaves is downs turned sends entries =
+    let same_down : down ≡ down_with x.work.marked b.down = downs ∙ ap (λ (w : Work). down_with w.marked b.down) leaves.work in
+    let turn_is : turn ≡ start_write b.setting (down_with x.work.marked b.down) x.work.request d =
+    turned ∙ ap (λ (ks : List ℕ). start_write b.setting ks mid.work.request d) same_down ∙ ap (λ (w : Work). start_write b.setting (down_with x.work.marked b.down) w.request d) leaves.work in
+    record {
+      gives =
+          ap (λ (xs : List Outbound). let e : Effects = record { sends = xs; entries = g.entries } in e) sends
+          ∙ ap (λ (es : List Entry). let e : Effects = record { sends = turn.sends; entries = es } in e) entries
+          ∙ ap (λ (m : Move). effects_of m) turn_is;
+      mid = mid;
+      hinted = hinted;
+      room = room;
+      leaves = leaves;
+      opens = ap (λ (w : OpenWrite). at (record mid.work { write = New w }) mid.hints) is;
     }

@@ -1,5 +1,5 @@
 -- What a client's request leaves as it was, and what of it the node sends to itself.
-use Rattle.std.proofs.Common.{◌≡◌, inl, inr, ℕ, Bool, true, false, List, [], ◌∷◌, ◌++◌, map, refl, sym, ap, subst, ◌∙◌}
+use Rattle.std.proofs.Common.{◌≡◌, inl, inr, ℕ, Bool, true, false, List, [], ◌∷◌, refl, sym, ap, subst, ◌∙◌}
 use Rattle.std.specs.Prelude.{◌==◌, cond}
 use Rattle.std.specs.List.{AllByRecursion}
 use Rattle.std.proofs.lemmas.Bool.{eqb-true}
@@ -25,7 +25,7 @@ use Rattle.node_core.specs.declared.slot.Slot.{Slot}
 use Rattle.node_core.specs.declared.slot.Slot.TheVariants.{New}
 use Rattle.node_core.specs.declared.work.Given.{Given}
 use Rattle.node_core.specs.declared.work.Work.{Work}
-use Rattle.node_core.specs.Hinting.{Stage, at}
+use Rattle.node_core.specs.Hinting.{Stage}
 use Rattle.node_core.specs.Working.{BodyFits, FitsWrite, IsMade, IsOwn, IsPlain, down_with, own_sent}
 use Rattle.node_core.specs.Asking.{AsksWrite, AsksRead, Begins}
 use Rattle.node_core.proofs.Hinting.{made_more}

@@ -1,5 +1,5 @@
 -- What a body that is heard makes of a step.
-use Rattle.std.proofs.Common.{◌≡◌, ◌<◌, ◌+◌, ◌⊎◌, inl, inr, ℕ, Bool, true, false, cond, Option, Some, None, List, [], ◌∷◌, ◌++◌, refl, sym, ap, subst, ◌∙◌, arith, filter, map, append-nil}
+use Rattle.std.proofs.Common.{◌≡◌, ◌<◌, ◌⊎◌, inl, inr, ℕ, Bool, true, false, cond, Option, Some, None, List, [], ◌∷◌, ◌++◌, refl, sym, ap, subst, ◌∙◌, arith, filter, append-nil}
 use Rattle.std.specs.Prelude.{◌==◌, MatchBool, if◌then◌else◌, nat_lt}
 use Rattle.std.specs.List.{AllByRecursion}
 use Rattle.std.specs.BTreeMap.{is_at}
@@ -9,7 +9,6 @@ use Rattle.cs_base.specs.Requests.{request_cmp}
 use Rattle.changes.specs.declared.Held.{Held}
 use Rattle.changes.specs.declared.Mutation.{Mutation}
 use Rattle.stored_changes.specs.Spelling.{MutationFits}
-use Rattle.row_change.specs.declared.entry.LogItem.{LogItem}
 use Rattle.row_change.specs.declared.entry.LogItem.TheVariants.{Data}
 use Rattle.peer_messages.specs.declared.chronicle.Entry.{Entry}
 use Rattle.peer_messages.specs.declared.message.Body.{Body}
@@ -40,7 +39,7 @@ use Rattle.node_core.specs.declared.work.Given.{Given}
 use Rattle.node_core.specs.declared.work.Work.{Work}
 use Rattle.node_core.specs.Hearing.{Moves, AckMoves, ReplyMoves}
 use Rattle.node_core.specs.Hinting.{Stage, at, HearsHintAck}
-use Rattle.node_core.specs.Working.{Heard, forgotten_in, state_at, effects_given, heard_act, own_sent, weight_of, weight, BodyFits, IsPlain, IsOwn, IsSlotOf, IsDataAt, IsSound, FitWrites, with_slot}
+use Rattle.node_core.specs.Working.{Heard, forgotten_in, state_at, effects_given, heard_act, own_sent, weight_of, weight, BodyFits, IsPlain, IsOwn, IsDataAt, IsSound, FitWrites, with_slot}
 use Rattle.node_core.specs.Moving.{GoesOn, IsReadFor, IsOfOther, Moved, TakesBody, TakesChanges, IsHeard, left_writes, left_reads, replies}
 use Rattle.node_core.proofs.Hinting.{acked_own, acked_goes_on, acked_moved, acked_sound, none_either}
 use Rattle.node_core.proofs.LeftOpen.{all_at, all_removed, all_set}
@@ -339,8 +338,8 @@ old_moved b d k x h g old same sends entries = record {
   brings = ap (λ (t : Bool). if t then [] else data_of x.work.time h.body) old;
   moves = moves_quietly b.setting b.me (loaded d) x.work.ceiling x.work.taken k (forgotten_in b x.work) (forgotten_in b x.work) (heard_act h) (effects_given g)
       (λ e commits.
-          let s = state_at b k e x.work in
-          subst (λ (t : Bool). MatchBool t ((effects_given g ≡ nothing) × (s ≡ s)) (HearsBody b.setting b.me (record { from = h.from; request = h.request }) h.body s (effects_given g) s)) (sym old) (nothing_given g sends entries, refl))
+      let s = state_at b k e x.work in
+      subst (λ (t : Bool). MatchBool t ((effects_given g ≡ nothing) × (s ≡ s)) (HearsBody b.setting b.me (record { from = h.from; request = h.request }) h.body s (effects_given g) s)) (sym old) (nothing_given g sends entries, refl))
       (λ e. (refl, ap (λ (t : Bool). if t then [] else gone_by_body (record { from = h.from; request = h.request }) h.body (state_at b k e x.work)) old));
 }
 

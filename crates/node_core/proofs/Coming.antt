@@ -10,7 +10,6 @@ use Rattle.peer_messages.specs.declared.message.Message.{Message}
 use Rattle.peer_messages.specs.declared.outcome.Outbound.{Outbound}
 use Rattle.peer_messages.specs.declared.setting.Setting.{Setting}
 use Rattle.durable_state.specs.State.{Durable}
-use Rattle.durable_state.specs.Keeping.{Commits}
 use Rattle.durable_state.proofs.Entries.{commits_parts}
 use Rattle.node_steps.specs.State.{NodeState, loaded}
 use Rattle.node_steps.specs.Hints.{KeptHints}
@@ -24,8 +23,8 @@ use Rattle.hint_store.specs.Staged.{IsSameHints}
 use Rattle.node_core.specs.declared.base.Base.{Base}
 use Rattle.node_core.specs.declared.work.Given.{Given}
 use Rattle.node_core.specs.declared.work.Work.{Work}
-use Rattle.node_core.specs.Hinting.{Stage, at}
-use Rattle.node_core.specs.Leading.{Leads, Made}
+use Rattle.node_core.specs.Hinting.{Stage}
+use Rattle.node_core.specs.Leading.{Leads}
 use Rattle.node_core.specs.Working.{forgotten_in, own_act, own_acts, own_sent, IsSent}
 use Rattle.node_core.specs.Moving.{GoesOn, HasCome, IsCut, Moved, MovesTo, making_of}
 use Rattle.node_core.proofs.Sending.{messages_append}

@@ -1,5 +1,5 @@
 -- All that is due, as its keys tell it.
-use Rattle.std.proofs.Common.{◌≡◌, ◌↔◌, ◌⊎◌, inl, inr, ℕ, zero, suc, ◌+◌, ◌++◌, ◌<◌, ◌≤◌, Bool, true, false, cond, Option, Some, None, List, [], ◌∷◌, map, take, refl, sym, ap, subst, ◌∙◌, arith, Contains}
+use Rattle.std.proofs.Common.{◌≡◌, ◌↔◌, ◌⊎◌, inl, inr, ℕ, zero, suc, ◌+◌, ◌++◌, ◌<◌, ◌≤◌, Bool, true, false, cond, Some, None, List, [], ◌∷◌, map, take, refl, sym, ap, subst, ◌∙◌, arith, Contains}
 use Rattle.std.specs.Prelude.{◌==◌, nat_lt, not, if◌then◌else◌, take_while, slice_get}
 use Rattle.std.specs.List.{All, AllByRecursion, prefix_len}
 use Rattle.std.specs.List.Sorted.{IsStrictlySortedBy}
@@ -23,14 +23,14 @@ use Rattle.peer_messages.specs.declared.setting.Setting.{Setting}
 use Rattle.peer_messages.specs.Moves.{deadline_of}
 use Rattle.node_steps.specs.Hints.{KeptHints}
 use Rattle.node_steps.specs.Acts.{Act, DeadlineComes, HintExpires}
-use Rattle.node_steps.specs.Steps.{Due, AreAscending, AreDue, IsDue, IsDeadline, IsExpiry, due_cmp, expiry_of}
+use Rattle.node_steps.specs.Steps.{Due, AreAscending, IsDue, IsDeadline, IsExpiry, due_cmp, expiry_of}
 use Rattle.node_steps.proofs.Opened.{request_exact}
 use Rattle.hint_store.specs.declared.aging.Expired.{Expired}
 use Rattle.hint_store.specs.Expiry.{IsExpired, expired_of}
 use Rattle.node_core.specs.declared.base.Base.{Base}
 use Rattle.node_core.specs.declared.due.DueKey.{DueKey}
 use Rattle.node_core.proofs.Slots.{some_one}
-use Rattle.node_core.specs.Due.{AreDueKeys, AreOwn, IsDeadlineKey, IsExpiryKey, act_by, deadline_key, due_by, expiry_key, is_due_at, key_cmp, waits_in}
+use Rattle.node_core.specs.Due.{AreDueKeys, AreOwn, IsDeadlineKey, IsExpiryKey, deadline_key, due_by, expiry_key, is_due_at, key_cmp, waits_in}
 
 -- ---- keys in a set
 
@@ -70,9 +70,9 @@ deadlines_more old ks ids id so_far k =
       λ h. elim h [
         | inl first ↦ put.1 (inr ((so_far k).1 (inl first)))
         | inr d ↦ elim ((contains_push ids id k.request).0 d.there) [
-            | inl there ↦ put.1 (inr ((so_far k).1 (inr (record { there = there; key = d.key }))))
-            | inr here ↦ put.1 (inl (d.key ∙ ap deadline_key (sym here)))
-          ]
+          | inl there ↦ put.1 (inr ((so_far k).1 (inr (record { there = there; key = d.key }))))
+          | inr here ↦ put.1 (inl (d.key ∙ ap deadline_key (sym here)))
+        ]
       ],
     )
 
@@ -96,9 +96,9 @@ expiries_more me expiry old ks xs x so_far k =
       λ h. elim h [
         | inl first ↦ put.1 (inr ((so_far k).1 (inl first)))
         | inr d ↦ elim ((contains_push xs x d.expired).0 d.there) [
-            | inl there ↦ put.1 (inr ((so_far k).1 (inr (record { expired = d.expired; there = there; key = d.key }))))
-            | inr here ↦ put.1 (inl (d.key ∙ ap (expiry_key me expiry) (sym here)))
-          ]
+          | inl there ↦ put.1 (inr ((so_far k).1 (inr (record { expired = d.expired; there = there; key = d.key }))))
+          | inr here ↦ put.1 (inl (d.key ∙ ap (expiry_key me expiry) (sym here)))
+        ]
       ],
     )
 
@@ -281,9 +281,9 @@ pub keys_found : (k0 k1 k2 k3 : List DueKey) (W R E : DueKey → Type 0) (d : Du
 keys_found k0 k1 k2 k3 W R E d none one two three = (
   λ h. elim (three.0 h) [
     | inl second ↦ elim (two.0 second) [
-        | inl first ↦ elim (one.0 first) [ inl there ↦ absurd (contains_nil d (subst (λ (ks : List DueKey). Contains ks d) none there)) | inr w ↦ inl w ]
-        | inr r ↦ inr (inl r)
-      ]
+      | inl first ↦ elim (one.0 first) [ inl there ↦ absurd (contains_nil d (subst (λ (ks : List DueKey). Contains ks d) none there)) | inr w ↦ inl w ]
+      | inr r ↦ inr (inl r)
+    ]
     | inr e ↦ inr (inr e)
   ],
   λ h. elim h [

@@ -1,5 +1,5 @@
 -- What a step leaves, from what it made and how that was kept.
-use Rattle.std.proofs.Common.{◌≡◌, ◌<◌, ◌≤◌, ◌^◌, ℕ, Option, List, Ok, Err, IsErrOf, IfOk, OnOk, OnErr, refl, sym, ap, subst, ◌∙◌, arith}
+use Rattle.std.proofs.Common.{◌≡◌, ◌<◌, ◌≤◌, ◌^◌, ℕ, Option, List, Ok, Err, IsErrOf, IfOk, OnOk, OnErr, sym, ap, subst, ◌∙◌, arith}
 use Rattle.peer_messages.specs.declared.chronicle.Entry.{Entry}
 use Rattle.peer_messages.specs.declared.event.Event.{Event}
 use Rattle.durable_state.specs.State.{Durable}
@@ -7,7 +7,7 @@ use Rattle.durable_state.specs.Keeping.{Commits}
 use Rattle.node_steps.specs.Hints.{KeptHints}
 use Rattle.node_steps.specs.Steps.{risen_time, end_of_time, started_by}
 use Rattle.replica.specs.declared.kept.Kept.{Kept}
-use Rattle.replica.specs.Kept.{IsKeptAfter, IsKeptOf}
+use Rattle.replica.specs.Kept.{IsKeptOf}
 use Rattle.cs_base.specs.declared.ids.ReqId.{ReqId}
 use Rattle.hint_store.specs.Staged.{Staged}
 use Rattle.node_core.specs.declared.memory.Made.{Made}

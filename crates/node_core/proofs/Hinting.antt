@@ -14,7 +14,7 @@ use Rattle.peer_messages.specs.declared.chronicle.Entry.{Entry}
 use Rattle.peer_messages.specs.declared.message.Body.TheVariants.{HintAck}
 use Rattle.peer_messages.specs.declared.outcome.Outbound.{Outbound}
 use Rattle.peer_messages.specs.declared.setting.Setting.{Setting}
-use Rattle.node_steps.specs.State.{NodeState, Batch, loaded}
+use Rattle.node_steps.specs.State.{NodeState, Batch}
 use Rattle.node_steps.specs.Effects.{Effects}
 use Rattle.node_steps.specs.Fitting.{is_table}
 use Rattle.durable_state.specs.State.{Durable, last_of}
@@ -236,13 +236,13 @@ leaves_more ps p born m x y z first next = record {
       next.work
       ∙ ap (λ (w : Work). let v : Work = record w { made = w.made ++ map add_item (pushed_hints (p ∷ []) born m y.hints) } in v) first.work
       ∙ ap (λ (xs : List LogItem). let v : Work = record x.work { made = xs } in v) (
-          append_assoc x.work.made (map add_item (pushed_hints ps born m x.hints)) (map add_item (pushed_hints (p ∷ []) born m y.hints))
-          ∙ ap (λ (xs : List LogItem). x.work.made ++ xs) (
-            sym (map-append add_item (pushed_hints ps born m x.hints) (pushed_hints (p ∷ []) born m y.hints))
-            ∙ ap (λ (hs : List hint.Hint). map add_item (pushed_hints ps born m x.hints ++ hs)) (append-nil (pushed_hint p born m y.hints) ∙ same_pushed (push_hints ps born m x.hints) y.hints first.hints p born m)
-            ∙ ap (λ (hs : List hint.Hint). map add_item hs) (sym (pushed_more ps p born m x.hints))
-          )
-        );
+      append_assoc x.work.made (map add_item (pushed_hints ps born m x.hints)) (map add_item (pushed_hints (p ∷ []) born m y.hints))
+      ∙ ap (λ (xs : List LogItem). x.work.made ++ xs) (
+      sym (map-append add_item (pushed_hints ps born m x.hints) (pushed_hints (p ∷ []) born m y.hints))
+      ∙ ap (λ (hs : List hint.Hint). map add_item (pushed_hints ps born m x.hints ++ hs)) (append-nil (pushed_hint p born m y.hints) ∙ same_pushed (push_hints ps born m x.hints) y.hints first.hints p born m)
+      ∙ ap (λ (hs : List hint.Hint). map add_item hs) (sym (pushed_more ps p born m x.hints))
+      )
+      );
 }
 
 -- a hint that came, and one for which there was no room

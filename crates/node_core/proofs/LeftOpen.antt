@@ -1,9 +1,9 @@
 -- Open requests, without those that ended: what is left, and how many wait for an answer.
-use Rattle.std.proofs.Common.{◌≡◌, ◌≢◌, ◌<◌, ◌≤◌, ◌+◌, ◌-◌, ◌⊎◌, inl, inr, ℕ, Bool, true, false, cond, Option, Some, None, List, [], ◌∷◌, ◌++◌, length, refl, sym, ap, subst, ◌∙◌, arith, Contains}
+use Rattle.std.proofs.Common.{◌≡◌, ◌<◌, ◌≤◌, ◌+◌, ◌-◌, inl, inr, ℕ, Bool, true, false, cond, Option, Some, None, List, [], ◌∷◌, ◌++◌, length, refl, sym, ap, subst, ◌∙◌, arith, Contains}
 use Rattle.std.specs.Prelude.{◌^◌, if◌then◌else◌, not}
 use Rattle.std.specs.Int.{from_bool}
 use Rattle.std.specs.List.{AllByRecursion}
-use Rattle.std.specs.Map.{lookup, set_value, remove_entry, keys_of}
+use Rattle.std.specs.Map.{lookup, set_value, remove_entry}
 use Rattle.std.specs.BTreeMap.{BTreeMap, is_at, insert_entry, IsOrdered}
 use Rattle.std.specs.Ordering.{nat_cmp, is_eq, match_ordering, ordering_then}
 use Rattle.std.specs.Cmp.{nat_cmp_is}
@@ -19,7 +19,7 @@ use Rattle.node_steps.proofs.Opened.{at_request}
 use Rattle.node_core.specs.Due.{AreOwn}
 use Rattle.node_core.specs.Moving.{BeganBefore}
 use Rattle.node_core.specs.Working.{EndedBefore, left_open}
-use Rattle.node_core.proofs.Slots.{request_itself, some_not_none, gone_is_none}
+use Rattle.node_core.proofs.Slots.{some_not_none, gone_is_none}
 
 -- ---- one more ends
 

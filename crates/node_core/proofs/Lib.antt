@@ -20,3 +20,4 @@ mod Answered
 mod Running
 mod Refusing
 mod Ending
+mod Loading

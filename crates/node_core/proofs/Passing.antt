@@ -1,12 +1,12 @@
 -- How a step takes what is due, one after another.
-use Rattle.std.proofs.Common.{◌≡◌, ◌⊎◌, inl, inr, ℕ, ◌+◌, ◌-◌, ◌<◌, ◌≤◌, Bool, true, false, Option, Some, None, List, [], ◌∷◌, ◌++◌, filter, length, map, append-nil, refl, sym, ap, subst, ◌∙◌, arith, Contains}
+use Rattle.std.proofs.Common.{◌≡◌, ◌⊎◌, inl, inr, ℕ, ◌-◌, ◌<◌, ◌≤◌, Bool, true, false, Option, Some, None, List, [], ◌∷◌, ◌++◌, map, append-nil, refl, sym, ap, subst, ◌∙◌, arith, Contains}
 use Rattle.std.specs.Prelude.{◌==◌, if◌then◌else◌, nat_lt}
 use Rattle.std.proofs.lemmas.Bool.{cases_Bool, eqb-true, ltb-true}
 use Rattle.std.specs.List.{AllByRecursion}
 use Rattle.std.specs.Ordering.{nat_cmp, ordering_then}
 use Rattle.std.specs.Cmp.{nat_cmp_is}
 use Rattle.std.specs.declared.cmp.Ordering.{Ordering}
-use Rattle.std.specs.declared.cmp.Ordering.TheVariants.{Less, Equal, Greater}
+use Rattle.std.specs.declared.cmp.Ordering.TheVariants.{Less, Equal}
 use Rattle.std.proofs.lemmas.List.{map-append, append_assoc}
 use Rattle.std.specs.Map.{remove_entry}
 use Rattle.std.specs.BTreeMap.{is_at}
@@ -15,15 +15,13 @@ use Rattle.cs_base.specs.Requests.{request_cmp}
 use Rattle.cs_base.proofs.Members.{contains_cases, contains_here, contains_map, contains_nil, contains_push, contains_there}
 use Rattle.stored_changes.specs.Spelling.{MutationFits}
 use Rattle.row_change.specs.declared.entry.Hint as hint
-use Rattle.row_change.specs.declared.entry.LogItem.{LogItem}
 use Rattle.peer_messages.specs.declared.chronicle.Entry.{Entry}
-use Rattle.peer_messages.specs.declared.message.Message.{Message}
 use Rattle.peer_messages.specs.declared.outcome.Move.{Move}
 use Rattle.peer_messages.specs.declared.outcome.Outbound.{Outbound}
 use Rattle.peer_messages.specs.Moves.{deadline_of, quiet}
 use Rattle.durable_state.specs.State.{Durable}
-use Rattle.node_steps.specs.State.{NodeState, OpenWrite, OpenRead, loaded}
-use Rattle.node_steps.specs.Effects.{Effects, nothing, open_at}
+use Rattle.node_steps.specs.State.{NodeState, OpenWrite, OpenRead}
+use Rattle.node_steps.specs.Effects.{Effects, open_at}
 use Rattle.node_steps.specs.Hints.{KeptHints, push_hints, pushed_hints, drop_hint}
 use Rattle.node_steps.specs.Leading.{Forgotten, keeping, state_under}
 use Rattle.node_steps.specs.Writes.{unheard, write_at, write_told}
@@ -43,7 +41,7 @@ use Rattle.node_core.specs.Deadlines.{EndsWrite, EndsRead, EndsRequest, EndsDue,
 use Rattle.node_core.specs.Due.{AreDueKeys, act_by, deadline_key, due_by, waits_in}
 use Rattle.node_core.specs.Hinting.{Stage, at, DropsHint, LeavesHints}
 use Rattle.node_core.specs.Working.{EndedBefore, FitWrites, IsOwn, IsSent, IsSlotOf, IsSound, effects_given, forgotten_in, left_open, own_sent, state_at, with_slot}
-use Rattle.node_core.specs.Moving.{EndsOne, GoesOn, HasCome, IsHolding, Moved, MovesTo, SendsOwn, TakesDue}
+use Rattle.node_core.specs.Moving.{EndsOne, GoesOn, HasCome, IsHolding, Moved, SendsOwn, TakesDue}
 use Rattle.node_core.specs.Slots.{IsNew}
 use Rattle.node_core.proofs.Coming.{matter_more}
 use Rattle.node_core.proofs.Hinting.{dropped_sound, made_more, no_gone}
@@ -232,9 +230,11 @@ hint_moved b d k peer number x x' same h =
       loses = ap (λ (w : Work). w.gone) h.work ∙ ap (λ (xs : List Gone). x.work.gone ++ map gone_item xs) (same_gone k x.hints peer number same);
       brings = refl;
       moves = λ f f' before at_f. (
-        (refl,
-         ap (λ (y : Durable). state_under x.work.ceiling (forgotten_in b x'.work) (keeping (drop_hint peer number k) y)) at_f
-             ∙ ap (λ (w : Work). state_under x.work.ceiling (forgotten_in b w) (keeping (drop_hint peer number k) f)) h.work),
+        (
+          refl,
+          ap (λ (y : Durable). state_under x.work.ceiling (forgotten_in b x'.work) (keeping (drop_hint peer number k) y)) at_f
+              ∙ ap (λ (w : Work). state_under x.work.ceiling (forgotten_in b w) (keeping (drop_hint peer number k) f)) h.work,
+        ),
         refl,
         refl,
       );

@@ -1,10 +1,9 @@
 -- From what a step made in memory to the step of the plain node.
-use Rattle.std.proofs.Common.{◌≡◌, ◌<◌, ◌+◌, ◌↔◌, ◌⊎◌, inl, inr, ℕ, Bool, true, false, Option, Some, None, List, [], ◌∷◌, ◌++◌, refl, sym, ap, subst, ◌∙◌, arith, filter, map, max, append-nil, Contains}
+use Rattle.std.proofs.Common.{◌≡◌, ◌<◌, ◌+◌, ◌↔◌, ◌⊎◌, inl, inr, ℕ, Bool, true, false, Option, Some, None, List, [], ◌∷◌, ◌++◌, refl, sym, ap, subst, ◌∙◌, arith, filter, map, max, Contains}
 use Rattle.std.specs.Prelude.{◌==◌, if◌then◌else◌, flat_map}
 use Rattle.std.specs.List.{AllByRecursion}
 use Rattle.std.proofs.Math.Nat.{le-max_left}
 use Rattle.std.proofs.lemmas.Bool.{eqb-true}
-use Rattle.std.proofs.lemmas.List.{map-append}
 use Rattle.std.proofs.lemmas.List.Elements.{filter-append}
 use Rattle.cs_base.specs.declared.ids.ReqId.{ReqId}
 use Rattle.changes.specs.declared.Partition.{Partition}
@@ -26,18 +25,17 @@ use Rattle.durable_state.proofs.Entries.{commits_parts}
 use Rattle.node_steps.specs.State.{NodeState, Batch, OpenWrite, OpenRead}
 use Rattle.node_steps.specs.Effects.{nothing}
 use Rattle.node_steps.specs.Hints.{KeptHints, hints_in}
-use Rattle.node_steps.specs.Leading.{Forgotten, forgotten_of, keeping, nothing_made, state_under}
+use Rattle.node_steps.specs.Leading.{Forgotten, keeping, nothing_made, state_under}
 use Rattle.node_steps.specs.Acts.{Act, Rises, Deed, Chain, ceiling_after}
 use Rattle.node_steps.specs.Acts.Chain.{begun, matter}
 use Rattle.node_steps.specs.Steps.{NodeStep, Due, AreDue, IsExpiry, TellsTables, act_of, risen_time, message_time, looked_at, reading, matter_of, started_by, is_refused, messages_of, sends_of, entries_of}
-use Rattle.node_steps.specs.Keeping.{Gone, add_item, gone_item, ceiling_in, entry_of, data_in, hint_items, hints_made, hints_gone}
+use Rattle.node_steps.specs.Keeping.{Gone, add_item, ceiling_in, entry_of, data_in, hint_items, hints_made, hints_gone}
 use Rattle.node_steps.specs.Stops.{CutStep, Leads as leads_to, MayBeLeft, asked_by, is_entered_at_stop, remains, remains_in}
 use Rattle.node_steps.proofs.Entries.{chain_hints}
 use Rattle.node_steps.proofs.Failing.{failed_stops}
 use Rattle.node_steps.proofs.HintLists.{HintMove, hint_items_only}
 use Rattle.hint_store.specs.Staged.{IsSameHints}
 use Rattle.hint_store.proofs.Same.{same_member}
-use Rattle.replica.specs.declared.kept.Kept.{Kept}
 use Rattle.replica.specs.Finding.{AlwaysLeaves, IsSafe, StandFor}
 use Rattle.replica.specs.Kept.{IsKeptAfter, IsKeptOf}
 use Rattle.replica.proofs.Fronts.{leaves_more, leaves_on, leaves_still, stand_more}
@@ -50,7 +48,7 @@ use Rattle.node_core.specs.declared.work.Work.{Work}
 use Rattle.node_core.specs.Asking.{IsFresh}
 use Rattle.node_core.specs.Due.{AreDueKeys, act_by, due_by, waits_in}
 use Rattle.node_core.specs.declared.due.DueKey.{DueKey}
-use Rattle.node_core.specs.Hinting.{Stage, at}
+use Rattle.node_core.specs.Hinting.{at}
 use Rattle.node_core.specs.Leading.{Leads, Made}
 use Rattle.node_core.specs.Memory.{AreOutputsOf, Begun, CutsOff, IsBegun, IsLost, TellsBy, WorksOut, core_behind, core_of, entry_made, is_flush, kept_with, outputs_with}
 use Rattle.node_core.specs.Moving.{HasCome, IsCut}

@@ -1,5 +1,5 @@
 -- The event's own matter, and all that comes of it.
-use Rattle.std.proofs.Common.{◌≡◌, inl, inr, ℕ, Bool, true, false, Option, Some, None, List, [], ◌∷◌, ◌++◌, length, refl, sym, ap, subst, ◌∙◌, filter, map, append-nil}
+use Rattle.std.proofs.Common.{◌≡◌, inl, inr, ℕ, Bool, true, false, Option, Some, None, List, [], ◌∷◌, ◌++◌, length, refl, sym, ap, subst, ◌∙◌, filter, append-nil}
 use Rattle.std.specs.Prelude.{◌==◌, ◌<◌, not, if◌then◌else◌, cond}
 use Rattle.std.specs.List.{AllByRecursion}
 use Rattle.std.proofs.lemmas.Bool.{and_parts, eq-eqb}
@@ -15,7 +15,7 @@ use Rattle.row_change.specs.declared.entry.LogItem.{LogItem}
 use Rattle.peer_messages.specs.declared.chronicle.Entry.{Entry}
 use Rattle.peer_messages.specs.declared.event.Ask.{Ask}
 use Rattle.peer_messages.specs.declared.event.What.{What}
-use Rattle.peer_messages.specs.declared.event.What.TheVariants.{Client, Deliver, Alive, Collect, Flush, Tick}
+use Rattle.peer_messages.specs.declared.event.What.TheVariants.{Client, Deliver, Alive}
 use Rattle.peer_messages.specs.declared.message.Message.{Message}
 use Rattle.peer_messages.specs.declared.outcome.Outbound.{Outbound}
 use Rattle.peer_messages.specs.declared.setting.Setting.{Setting}
@@ -23,7 +23,7 @@ use Rattle.peer_messages.specs.Settings.{marked}
 use Rattle.durable_state.specs.State.{Durable}
 use Rattle.durable_state.specs.Keeping.{Commits}
 use Rattle.node_steps.specs.State.{NodeState, OpenWrite, loaded}
-use Rattle.node_steps.specs.Effects.{Effects, nothing, open_at}
+use Rattle.node_steps.specs.Effects.{Effects, open_at}
 use Rattle.node_steps.specs.Fitting.{message_fits, mark_fits}
 use Rattle.node_steps.specs.Hints.{KeptHints, with_sent}
 use Rattle.node_steps.specs.Leading.{keeping, state_under}
@@ -283,7 +283,7 @@ mark_moved b d k x w' peer up g none same h =
       brings = refl;
       moves = moves_quietly b.setting b.me (loaded d) x.work.ceiling x.work.taken k (forgotten_in b x.work) (forgotten_in b w') (Marks peer up) (effects_given g)
           (λ e commits.
-              subst (λ (s : NodeState). Does b.setting b.me (state_at b k e x.work) (Marks peer up) (effects_given g) s) (state_as b k e w' x.work.ceiling (ap (λ (y : Work). y.ceiling) is)) (mark_does b k x.hints e x.work w' peer up g none same h))
+          subst (λ (s : NodeState). Does b.setting b.me (state_at b k e x.work) (Marks peer up) (effects_given g) s) (state_as b k e w' x.work.ceiling (ap (λ (y : Work). y.ceiling) is)) (mark_does b k x.hints e x.work w' peer up g none same h))
           (λ e. (refl, refl));
     }
 

@@ -1,5 +1,5 @@
 -- How a step takes what is due.
-use Rattle.std.specs.Prelude.{◌≡◌, ◌⊎◌, ◌++◌, ◌-◌, ℕ, if◌then◌else◌, Option, Some, None, List, [], ◌∷◌, Contains}
+use Rattle.std.specs.Prelude.{◌≡◌, ◌⊎◌, ◌++◌, ◌-◌, if◌then◌else◌, Option, Some, None, List, [], ◌∷◌, Contains}
 use Rattle.cs_base.specs.declared.ids.ReqId.{ReqId}
 use Rattle.durable_state.specs.State.{Durable}
 use Rattle.node_steps.specs.State.{OpenWrite, OpenRead}

@@ -1,5 +1,5 @@
 -- What a step makes of hints: some are kept, some go, and some are sent.
-use Rattle.std.specs.Prelude.{◌≡◌, ℕ, Bool, ◌&&◌, ◌++◌, if◌then◌else◌, not, ◌==◌, Option, Some, List, [], ◌∷◌, map, filter}
+use Rattle.std.specs.Prelude.{◌≡◌, ℕ, Bool, ◌&&◌, ◌++◌, if◌then◌else◌, not, ◌==◌, Some, List, [], map, filter}
 use Rattle.cs_base.specs.Quorums.{is_in}
 use Rattle.changes.specs.declared.Mutation.{Mutation}
 use Rattle.row_change.specs.declared.entry.Hint as hint

@@ -175,11 +175,8 @@ fn read_for<R: Replica>(
 {
     match body {
         Body::Read(query) => Ok(Some(answer(replica, alloc, items, query)?)),
-        Body::Write(_)
-        | Body::WriteAck
-        | Body::ReadReply(_)
-        | Body::Hint(..)
-        | Body::HintAck(_) => Ok(None),
+        Body::Write(_) | Body::WriteAck | Body::ReadReply(_) | Body::Hint(..) | Body::HintAck(_) =>
+            Ok(None),
     }
 }
 
@@ -376,6 +373,15 @@ pub(crate) fn hear_own<R: Replica>(
         request: sent.request,
     };
     let born = sent.born;
-    let given = hear(base, hints, replica, alloc, work, asker, born, &mut sent.body)?;
+    let given = hear(
+        base,
+        hints,
+        replica,
+        alloc,
+        work,
+        asker,
+        born,
+        &mut sent.body,
+    )?;
     Ok(work.give(base.me, given)?)
 }

@@ -7,7 +7,6 @@ mod base;
 mod batches;
 mod deadlines;
 mod due;
-
 mod fits;
 mod hearing;
 mod hears;

@@ -30,11 +30,10 @@ pub(crate) fn request_of(me: NodeId, time: Micros, what: &What) -> ReqId
 {
     match what {
         What::Deliver(message) => message.request,
-        What::Client(_)
-        | What::Alive(..)
-        | What::Collect(_)
-        | What::Flush
-        | What::Tick => ReqId { node: me, time },
+        What::Client(_) | What::Alive(..) | What::Collect(_) | What::Flush | What::Tick => ReqId {
+            node: me,
+            time,
+        },
     }
 }
 

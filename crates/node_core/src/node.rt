@@ -20,6 +20,7 @@ use crate::memory::{Memory, advance};
 use crate::outcome::{Lost, StepError};
 use cs_base::{Items, NodeId};
 use hint_store::HintStore;
+use node_steps::what_fits_is_tested;
 use peer_messages::{Event, Outputs, Setting};
 use replica::{Kept, LoadError, Replica};
 use std::alloc::{AllocError, Global};
@@ -173,6 +174,7 @@ impl<R: Replica> Node<R> {
         ensures damaged { (s : _) (f p : ℕ) → IsErrOf result (load_error.Damaged s f p) → R.Disk.is_honest → R.is_damaged (R.Disk.disk store).seen f p }
         ensures surely { ((n : ℕ) → R.Disk.spares store n) → ((s : _) → IsErrOf result (load_error.Failed s) → ⊥) × IfOk result (λ l. (n : ℕ) → R.Disk.spares (R.disk l.replica) n) }
     {
+        what_fits_is_tested();
         let (replica, kept) = R::load(alloc, store)?;
         match NodeCore::loaded(alloc, me, setting, kept) {
             Ok(core) => Ok(Node { core, replica }),

@@ -107,11 +107,7 @@ pub(crate) fn request_began(me: NodeId, time: Micros, what: &What) -> Option<Req
 {
     match what {
         What::Client(_) => Some(ReqId { node: me, time }),
-        What::Deliver(_)
-        | What::Alive(..)
-        | What::Collect(_)
-        | What::Flush
-        | What::Tick => None,
+        What::Deliver(_) | What::Alive(..) | What::Collect(_) | What::Flush | What::Tick => None,
     }
 }
 

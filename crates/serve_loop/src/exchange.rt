@@ -39,7 +39,8 @@ fn response_to<R: Wait, D: Desk>(
         Act::Reply(response) => Ok(Some(response)),
         Act::Submit(ask) => ask_for(rt, desk, session, frame.stream, ask),
         // No frame closes its connection, but only what is no frame.
-        Act::Close(_) => Err(AllocError),
+        // what is due for a frame leaves the connection open
+        Act::Close(_) => unreachable!(),
     }
 }
 

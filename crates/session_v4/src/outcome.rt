@@ -3,14 +3,14 @@
 ghost use Rattle.std.specs.Prelude.{◌≡◌, Ok, Err, Some, None, IfOk};
 ghost use Rattle.statement_binder.specs.Plans.{plan_of};
 ghost use Rattle.statement_binder.specs.Supplies.{values_in};
-ghost use Rattle.session_v4.specs.Outcomes.{admission as admission_on, is_serial_consistency as is_serial_consistency_of, level_in as level_in_consistency, level_of as level_of_terms, outcome_of, plan_fault as plan_fault_of, planned, read_outcome, shown_of as shown_of_read, write_outcome, ComesTo};
+ghost use Rattle.session_v4.specs.Outcomes.{admission as admission_on, batch_terms as batch_terms_of, is_serial_consistency as is_serial_consistency_of, level_in as level_in_consistency, level_of as level_of_terms, outcome_of, plan_fault as plan_fault_of, planned, read_outcome, shown_of as shown_of_read, write_outcome, ComesTo};
 ghost use Rattle.session_v4.specs.Paging.{row_before as row_before_page, RowAnswers};
 
 use crate::paging::{page_query, page_size};
 use crate::reason::Reason;
 use changes::{DraftMutation, Query};
 use cs_base::{Bytes, Items, Level, Text};
-use frame_bodies::Consistency;
+use frame_bodies::{Batch, Consistency};
 use page_state::{PagingError, read_paging};
 use peer_messages::{Ask, Invalid};
 use prepared_statement::Prepared;
@@ -27,6 +27,19 @@ pub(crate) struct Terms {
     pub skip_metadata: bool,
     pub page_size: Option<i32>,
     pub paging_state: Option<Bytes>,
+}
+
+/// A batch has no pages.
+pub(crate) fn batch_terms(batch: &Batch) -> Terms
+    ensures { result ≡ batch_terms_of batch.now }
+{
+    Terms {
+        consistency: batch.consistency,
+        serial_consistency: batch.serial_consistency,
+        skip_metadata: false,
+        page_size: None,
+        paging_state: None,
+    }
 }
 
 /// Terms that were taken: the row behind which the page begins, and the level.

@@ -3,20 +3,18 @@
 ghost use Rattle.std.specs.Prelude.{◌≡◌, ◌≢◌, ◌↔◌, IsTrue, IfErr, IfOk, OnErr, Some, None, Ok, IsSome, pos, option_copied};
 ghost use Rattle.cql_parser.specs.declared.error.ParseError.TheVariants as parsing;
 ghost use Rattle.prepared_statement.specs.Prepared.{outline_of};
-ghost use Rattle.session_v4.specs.Outcomes.{batch_terms as batch_terms_of, named_state as named_state_of};
-ghost use Rattle.session_v4.specs.Refusals.{invalid_error, place_of, syntax_error};
+ghost use Rattle.session_v4.specs.Outcomes.{named_state as named_state_of};
 ghost use Rattle.session_v4.specs.Sessions.{fresh, kept_as, state_in, used_by as used_by_name, AwaitsFor, FoundAs, IsAnswered, IsBatchDue, IsChangesDue, IsClosed, IsDue, IsExecuteDue, IsKeptDue, IsPrepareDue, IsQueryDue, IsReadDue, IsReadPrepared, IsRequestDue, IsStartupDue, IsStatementDue, IsTakenDue, StatementComesTo, Takes, ToldAs, Waits};
 ghost use Rattle.frame_v4.specs.declared.error.FrameError.TheVariants as framing;
 
-use crate::act::Act;
+use crate::act::{Act, misread, unfit};
 use crate::answers::answer_of;
 use crate::batches::{Entries, entries_of, lists_of};
 use crate::described::told_of;
 use crate::given::params_of;
 use crate::kept::{KeptStatement, id_of, keep_if, kept_at};
-use crate::outcome::{Outcome, Terms, Wanted, filled_outcome};
-use crate::reason::Reason;
-use crate::refusals::{invalid, protocol, syntax, unframed, unprepared, unread};
+use crate::outcome::{Outcome, Terms, Wanted, batch_terms, filled_outcome};
+use crate::refusals::{invalid, protocol, unframed, unprepared, unread};
 use crate::startup::{needs_startup, startup_fault, supported};
 use crate::words::has_word;
 use client_desk::Answer;
@@ -28,7 +26,6 @@ use frame_bodies::{
     decode_request,
 };
 use frame_v4::{Frame, FrameError};
-use peer_messages::Invalid;
 use prepared_statement::{Changes, Prepared, outline};
 use schema_book::Schema;
 use statement_binder::{BindError, Values, prepare};
@@ -106,34 +103,6 @@ fn statement_outcome(
     };
     let params = params_of(alloc, values)?;
     filled_outcome(alloc, &terms, prepared, Values::Whole(&params), timestamp)
-}
-
-fn batch_terms(batch: &Batch) -> Terms
-    ensures { result ≡ batch_terms_of batch.now }
-{
-    Terms {
-        consistency: batch.consistency,
-        serial_consistency: batch.serial_consistency,
-        skip_metadata: false,
-        page_size: None,
-        paging_state: None,
-    }
-}
-
-/// A text that is no statement.
-fn misread(alloc: Global, text: &str, error: ParseError) -> Result<Act, AllocError>
-    ensures response { IfOk result (λ act. act ≡ Act.Reply (syntax_error (place_of text.now error))) }
-    ensures cause { IfOk result (λ act. error ≢ parsing.NoMemory) }
-{
-    Ok(Act::Reply(syntax(alloc, text, error)?))
-}
-
-/// A statement that is refused whatever its values are.
-fn unfit(alloc: Global, fault: Fault) -> Result<Act, AllocError>
-    ensures { IfOk result (λ act. act ≡ Act.Reply (invalid_error (Reason.Invalid (Invalid.Statement fault)))) }
-{
-    let reason = Reason::Invalid(Invalid::Statement(fault));
-    Ok(Act::Reply(invalid(alloc, reason)?))
 }
 
 impl<'a> Session<'a> {

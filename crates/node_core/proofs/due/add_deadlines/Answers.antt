@@ -1,10 +1,10 @@
-use Rattle.std.proofs.Common.{◌≡◌, ◌↔◌, ◌⊎◌, List, [], ◌∷◌, ◌++◌, take, sym, ap, subst, ◌∙◌, Contains}
+use Rattle.std.proofs.Common.{◌↔◌, ◌⊎◌, List, [], ◌∷◌, ◌++◌, take, sym, ap, subst, ◌∙◌, Contains}
 use Rattle.std.specs.BTreeSet.{insert_key}
 use Rattle.std.proofs.lemmas.List.{take_all}
 use Rattle.cs_base.specs.declared.ids.ReqId.{ReqId}
 use Rattle.cs_base.proofs.Members.{front_more, contains_at}
 use Rattle.node_core.specs.declared.due.DueKey.{DueKey}
-use Rattle.node_core.specs.Due.{IsDeadlineKey, key_cmp, deadline_key}
+use Rattle.node_core.specs.Due.{IsDeadlineKey, key_cmp}
 use Rattle.node_core.proofs.DueKeys.{deadlines_none, deadlines_more}
 use Rattle.node_core.proofs.due.add_deadlines.Goals as goal
 

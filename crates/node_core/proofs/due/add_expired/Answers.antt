@@ -1,10 +1,10 @@
-use Rattle.std.proofs.Common.{◌≡◌, ◌↔◌, ◌⊎◌, ◌<◌, List, [], ◌∷◌, ◌++◌, take, sym, ap, subst, ◌∙◌, inl, inr, Contains}
+use Rattle.std.proofs.Common.{◌↔◌, ◌⊎◌, ◌<◌, List, [], ◌∷◌, ◌++◌, take, sym, ap, subst, ◌∙◌, inl, inr, Contains}
 use Rattle.std.specs.BTreeSet.{insert_key}
 use Rattle.std.proofs.lemmas.List.{take_all}
 use Rattle.hint_store.specs.declared.aging.Expired.{Expired}
 use Rattle.cs_base.proofs.Members.{front_more, contains_at, contains_nil, contains_push}
 use Rattle.node_core.specs.declared.due.DueKey.{DueKey}
-use Rattle.node_core.specs.Due.{IsExpiryKey, key_cmp, expiry_key}
+use Rattle.node_core.specs.Due.{IsExpiryKey, key_cmp}
 use Rattle.node_core.proofs.DueKeys.{above_zero, expiries_none, expiries_more}
 use Rattle.node_core.proofs.due.add_expired.Goals as goal
 

@@ -1,4 +1,4 @@
-use Rattle.std.proofs.Common.{◌≡◌, ◌↔◌, ◌⊎◌, ◌+◌, ◌<◌, ◌≤◌, true, List, sym, ap, subst, ◌∙◌, arith, Contains}
+use Rattle.std.proofs.Common.{◌≡◌, ◌↔◌, true, List, sym, ap, subst, ◌∙◌, arith, Contains}
 use Rattle.std.specs.Map.{keys_of}
 use Rattle.cs_base.specs.declared.ids.ReqId.{ReqId}
 use Rattle.row_change.specs.declared.entry.Hint.{Hint}

@@ -1,4 +1,4 @@
-use Rattle.std.proofs.Common.{rules, ◌≡◌, List, take, sym, ap, subst, ◌∙◌}
+use Rattle.std.proofs.Common.{List, take, sym, ap, ◌∙◌}
 use Rattle.std.specs.Map.{remove_entry}
 use Rattle.std.specs.BTreeMap.{is_at}
 use Rattle.cs_base.specs.declared.ids.ReqId.{ReqId}

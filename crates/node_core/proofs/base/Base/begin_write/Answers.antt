@@ -1,4 +1,4 @@
-use Rattle.std.proofs.Common.{◌<◌, ℕ, sym, subst, ◌∙◌, arith}
+use Rattle.std.proofs.Common.{◌<◌, ℕ, sym, subst, arith}
 use Rattle.std.specs.Prelude.{◌^◌}
 use Rattle.node_steps.specs.State.{OpenWrite}
 use Rattle.node_core.specs.declared.slot.Slot.{Slot}

@@ -9,7 +9,7 @@ use Rattle.node_core.proofs.work.Work.end_write.Goals as goal
 pub returns-clause-ok : goal.returns-clause-ok
 returns-clause-ok c = write_ends c.args.base.now c.args.request.now c.args.write.now (at c.args.self.now c.args.hints.now.now) (at c.leave_hints.new.self c.leave_hints.new.hints.now) (at c.if-not-is_answered.self c.leave_hints.new.hints.now) c.of.result c.in_ok-turn.turn c.requires.due
     (subst (λ (ps : List ℕ). LeavesHints ps c.args.request.now.time c.args.write.now.mutation (at c.args.self.now c.args.hints.now.now) (at c.leave_hints.new.self c.leave_hints.new.hints.now)) (c.as_slice.ensures ∙ c.in_ok-unheard.ensures)
-        (subst (λ (m : Mutation). LeavesHints c.as_slice.result.now c.args.request.now.time m (at c.args.self.now c.args.hints.now.now) (at c.leave_hints.new.self c.leave_hints.new.hints.now)) c.mutation.ensures c.in_ok-leave_hints.ensures.ok))
+    (subst (λ (m : Mutation). LeavesHints c.as_slice.result.now c.args.request.now.time m (at c.args.self.now c.args.hints.now.now) (at c.leave_hints.new.self c.leave_hints.new.hints.now)) c.mutation.ensures c.in_ok-leave_hints.ensures.ok))
     (elim c.if-not-is_answered.branch [
       | then-not-is_answered w ↦
           w.self-is
