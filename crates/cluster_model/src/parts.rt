@@ -53,11 +53,7 @@ fn is_ask(what: &What) -> bool
 {
     match what {
         What::Client(_) => true,
-        What::Deliver(_)
-        | What::Alive(..)
-        | What::Collect(_)
-        | What::Flush
-        | What::Tick => false,
+        What::Deliver(_) | What::Alive(..) | What::Collect(_) | What::Flush | What::Tick => false,
     }
 }
 

@@ -240,11 +240,14 @@ fn requests_are_refused(rt: HostRuntime) -> Result<(), Fail> {
 fn mark(alloc: Global, node: &mut Tested, peer: u8, up: bool) -> Result<usize, Fail> {
     let outputs = take(alloc, node, What::Alive(id(peer)?, up))?;
     let sends = outputs.sends.as_slice();
-    let are_hints = sends
-        .iter()
-        .all(|sent| sent.upto.number() == peer && matches!(sent.body, Body::Hint(..)));
+    let are_hints = sends.iter().all(|sent| sent.upto.number() == peer
+        && matches!(sent.body, Body::Hint(..)));
     let is_all = are_hints && outputs.entries.as_slice().is_empty();
-    Ok(is_all.then_some(sends.len()).ok_or("a mark gives something else")?)
+    Ok(
+        is_all
+            .then_some(sends.len())
+            .ok_or("a mark gives something else")?,
+    )
 }
 
 /// The other nodes to which a write at this level goes, as the bits of their numbers.

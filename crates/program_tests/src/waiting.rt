@@ -27,7 +27,10 @@ fn tells_deadlines(rt: HostRuntime) -> Result<(), Fail> {
             "2 rows 1\n 'a' | 'x'\n1 write-timeout received 1 blockfor 2 SIMPLE\n",
         ),
         // the coordinator forgets its request at a stop
-        ("put 0 QUORUM k a 5 x\ncrash 0 kept\nrestart 0\nclock 0 9000000\n", ""),
+        (
+            "put 0 QUORUM k a 5 x\ncrash 0 kept\nrestart 0\nclock 0 9000000\n",
+            "",
+        ),
         // two deadlines of one step, in the order of their requests
         (
             "put 0 QUORUM k a 5 x\nget 0 QUORUM k\nclock 0 9000000\n",

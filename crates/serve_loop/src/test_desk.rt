@@ -221,7 +221,10 @@ impl<'a, R: Abort> Desk for ScriptDesk<'a, R> {
         let (told, looks) = self.line(self.entries.len());
         match looks {
             None => {
-                let (answer, kept) = answers(self.alloc, told).expect(self.rt, "memory for answers");
+                let (answer, kept) = answers(self.alloc, told).expect(
+                    self.rt,
+                    "memory for answers",
+                );
                 keep_answered(self.rt, &mut self.entries, ask, kept);
                 Err(answer)
             }
