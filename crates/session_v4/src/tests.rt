@@ -3,11 +3,13 @@
 mod bytes;
 mod turns;
 
+use crate::Session;
 use changes::{Bound, ShownCell, ShownRow};
 use client_desk::Answer;
 use cql_parser::parse;
 use cql_statement::Statements;
 use cs_base::{Bytes, Items};
+use frame_bodies::Response;
 use peer_messages::{Ask, Plan, Refusal};
 use schema_book::Schema;
 use std::alloc::{AllocError, Global};
@@ -77,6 +79,20 @@ fn answer_of(alloc: Global, told: Told) -> Result<Answer, AllocError> {
             Ok(Answer::Rows(rows, more))
         }
     }
+}
+
+/// The response to what a node tells, if one is waited for.
+fn told_to(
+    alloc: Global,
+    session: &mut Session,
+    stream: i16,
+    told: Told,
+) -> Result<Option<Response>, Fail> {
+    if !session.waits_for(stream) {
+        return Ok(None);
+    }
+    let answer = answer_of(alloc, told)?;
+    Ok(Some(session.answer(stream, &answer)?))
 }
 
 fn print_bound(out: &mut String, bound: &Bound) -> Result<(), Fail> {

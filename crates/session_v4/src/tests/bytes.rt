@@ -1,9 +1,9 @@
 //! Conversations as bytes in and out.
 
-use super::{Told, answer_of, print_ask, schema, unhex};
+use super::{Told, print_ask, schema, told_to, unhex};
 use crate::{Act, Session, stream_of};
 use frame_bodies::{Response, encode_response};
-use frame_v4::{Frame, Framer, write_frame};
+use frame_v4::{Frame, FrameError, Framer, write_frame};
 use std::alloc::{AllocError, Global};
 use std::fmt::Write;
 use std::process::Abort;
@@ -48,6 +48,49 @@ fn print_frame(
     Ok(())
 }
 
+fn print_reply(
+    alloc: Global,
+    out: &mut String,
+    word: &str,
+    stream: i16,
+    response: &Response,
+) -> Result<(), Fail> {
+    out.push_str(word)?;
+    print_frame(alloc, out, stream, response)
+}
+
+/// What goes out for a frame for which a node is asked.
+fn print_submitted(
+    alloc: Global,
+    out: &mut String,
+    session: &mut Session,
+    stream: i16,
+    told: Told,
+) -> Result<(), Fail> {
+    match &told_to(alloc, session, stream, told)? {
+        Some(response) => print_frame(alloc, out, stream, response),
+        None => Ok(()),
+    }
+}
+
+fn print_act(
+    alloc: Global,
+    out: &mut String,
+    session: &mut Session,
+    stream: i16,
+    act: &Act,
+    told: Told,
+) -> Result<(), Fail> {
+    match act {
+        Act::Reply(response) => print_reply(alloc, out, "reply ", stream, response),
+        Act::Close(response) => print_reply(alloc, out, "close ", stream, response),
+        Act::Submit(ask) => {
+            print_ask(out, ask)?;
+            print_submitted(alloc, out, session, stream, told)
+        }
+    }
+}
+
 /// What goes out for a frame.
 fn print_step(
     alloc: Global,
@@ -56,24 +99,35 @@ fn print_step(
     frame: &Frame,
     told: Told,
 ) -> Result<(), Fail> {
-    match session.step(frame)? {
-        Act::Reply(response) => {
-            out.push_str("reply ")?;
-            print_frame(alloc, out, frame.stream, &response)
-        }
-        Act::Close(response) => {
-            out.push_str("close ")?;
-            print_frame(alloc, out, frame.stream, &response)
-        }
-        Act::Submit(ask) => {
-            print_ask(out, &ask)?;
-            if session.waits_for(frame.stream) {
-                let response = session.answer(frame.stream, &answer_of(alloc, told)?)?;
-                print_frame(alloc, out, frame.stream, &response)?;
-            }
-            Ok(())
-        }
+    let act = session.step(frame)?;
+    print_act(alloc, out, session, frame.stream, &act, told)
+}
+
+fn print_steps(
+    alloc: Global,
+    out: &mut String,
+    session: &mut Session,
+    frames: &[Frame],
+    told: Told,
+) -> Result<(), Fail> {
+    for frame in frames {
+        print_step(alloc, out, session, frame, told)?;
     }
+    Ok(())
+}
+
+/// What goes out for a stream that is none of frames.
+fn print_refused(
+    alloc: Global,
+    out: &mut String,
+    session: &mut Session,
+    error: &FrameError,
+) -> Result<(), Fail> {
+    if let FrameError::NoMemory = error {
+        return Err(Fail::from(AllocError));
+    }
+    let act = session.refuse(error)?;
+    print_act(alloc, out, session, stream_of(error), &act, Told::Nothing)
 }
 
 /// What goes out for bytes that come.
@@ -86,35 +140,45 @@ fn print_bytes(
     told: Told,
 ) -> Result<(), Fail> {
     match framer.feed(bytes) {
-        Ok(frames) => {
-            for frame in frames.as_slice() {
-                print_step(alloc, out, session, frame, told)?;
-            }
-            Ok(())
-        }
-        Err(frame_v4::FrameError::NoMemory) => Err(Fail::from(AllocError)),
-        Err(error) => {
-            if let Act::Close(response) = session.refuse(&error)? {
-                out.push_str("close ")?;
-                print_frame(alloc, out, stream_of(&error), &response)?;
-            }
-            Ok(())
-        }
+        Ok(frames) => print_steps(alloc, out, session, frames.as_slice(), told),
+        Err(error) => print_refused(alloc, out, session, &error),
     }
+}
+
+/// Whether the next line of a conversation is as it is written.
+fn check_line(
+    rt: &impl Abort,
+    alloc: Global,
+    framer: &mut Framer,
+    session: &mut Session,
+    line: &Line,
+) -> Result<(), Fail> {
+    let (input, told, output) = line;
+    let bytes = unhex(alloc, input)?;
+    let mut out = String::new(alloc);
+    print_bytes(alloc, &mut out, framer, session, &bytes, *told)?;
+    assert_eq!(rt; out.as_str(), *output, "{input}");
+    Ok(())
+}
+
+fn check_lines(
+    rt: &impl Abort,
+    alloc: Global,
+    session: &mut Session,
+    lines: &[Line],
+) -> Result<(), Fail> {
+    let mut framer = Framer::new(alloc);
+    for line in lines {
+        check_line(rt, alloc, &mut framer, session, line)?;
+    }
+    Ok(())
 }
 
 /// Whether a conversation is as it is written.
 fn check(rt: &impl Abort, alloc: Global, lines: &[Line]) -> Result<(), Fail> {
     let schema = schema(alloc)?;
     let mut session = Session::new(alloc, &schema);
-    let mut framer = Framer::new(alloc);
-    for (input, told, output) in lines {
-        let bytes = unhex(alloc, input)?;
-        let mut out = String::new(alloc);
-        print_bytes(alloc, &mut out, &mut framer, &mut session, &bytes, *told)?;
-        assert_eq!(rt; out.as_str(), *output, "{input}");
-    }
-    Ok(())
+    check_lines(rt, alloc, &mut session, lines)
 }
 
 #[test]

@@ -1,6 +1,6 @@
 //! Conversations as requests and printed answers.
 
-use super::{Told, answer_of, print_ask, schema, unhex};
+use super::{Told, print_ask, schema, told_to, unhex};
 use crate::{Act, Session};
 use cs_base::Bytes;
 use frame_bodies::{Columns, Response, Rows};
@@ -98,6 +98,37 @@ fn print_response(out: &mut String, response: &Response) -> Result<(), Fail> {
     Ok(())
 }
 
+/// What a client is answered for whom a node is asked.
+fn print_submitted(
+    alloc: Global,
+    out: &mut String,
+    session: &mut Session,
+    stream: i16,
+    told: Told,
+) -> Result<(), Fail> {
+    match &told_to(alloc, session, stream, told)? {
+        Some(response) => print_response(out, response),
+        None => Ok(()),
+    }
+}
+
+fn print_act(
+    alloc: Global,
+    out: &mut String,
+    session: &mut Session,
+    stream: i16,
+    act: &Act,
+    told: Told,
+) -> Result<(), Fail> {
+    match act {
+        Act::Reply(response) | Act::Close(response) => print_response(out, response),
+        Act::Submit(ask) => {
+            print_ask(out, ask)?;
+            print_submitted(alloc, out, session, stream, told)
+        }
+    }
+}
+
 fn print_turn(
     alloc: Global,
     out: &mut String,
@@ -105,32 +136,45 @@ fn print_turn(
     frame: &Frame,
     told: Told,
 ) -> Result<(), Fail> {
-    match session.step(frame)? {
-        Act::Reply(response) | Act::Close(response) => print_response(out, &response),
-        Act::Submit(ask) => {
-            print_ask(out, &ask)?;
-            if session.waits_for(frame.stream) {
-                let response = session.answer(frame.stream, &answer_of(alloc, told)?)?;
-                print_response(out, &response)?;
-            }
-            Ok(())
-        }
+    let act = session.step(frame)?;
+    print_act(alloc, out, session, frame.stream, &act, told)
+}
+
+/// Whether the next turn of a conversation is as it is written.
+fn check_turn(
+    rt: &impl Abort,
+    alloc: Global,
+    session: &mut Session,
+    stream: i16,
+    turn: &Turn,
+) -> Result<(), Fail> {
+    let (asked, told, output) = turn;
+    let frame = request_of(alloc, stream, *asked)?;
+    let mut out = String::new(alloc);
+    print_turn(alloc, &mut out, session, &frame, *told)?;
+    assert_eq!(rt; out.as_str(), *output, "{asked:?}");
+    Ok(())
+}
+
+fn check_on(
+    rt: &impl Abort,
+    alloc: Global,
+    session: &mut Session,
+    turns: &[Turn],
+) -> Result<(), Fail> {
+    let mut stream = 0;
+    for turn in turns {
+        check_turn(rt, alloc, session, stream, turn)?;
+        stream = i16::wrapping_add(stream, 1);
     }
+    Ok(())
 }
 
 /// Whether the turns of a conversation are as they are written.
 fn check_turns(rt: &impl Abort, alloc: Global, turns: &[Turn]) -> Result<(), Fail> {
     let schema = schema(alloc)?;
     let mut session = Session::new(alloc, &schema);
-    let mut stream = 0;
-    for (asked, told, output) in turns {
-        let frame = request_of(alloc, stream, *asked)?;
-        let mut out = String::new(alloc);
-        print_turn(alloc, &mut out, &mut session, &frame, *told)?;
-        assert_eq!(rt; out.as_str(), *output, "{asked:?}");
-        stream = i16::wrapping_add(stream, 1);
-    }
-    Ok(())
+    check_on(rt, alloc, &mut session, turns)
 }
 
 const START: Asked = (0x01, "", "0001 000B 43514C5F56455253494F4E 0005 332E302E30");
