@@ -14,6 +14,8 @@ use Rattle.cluster_runs.specs.World.{World, Standing, Running, Down, start}
 use Rattle.cluster_runs.specs.Run.{RunFrom, Run}
 use Rattle.cluster_runs.specs.Run.RunFrom.{begun, load, stopped}
 use Rattle.cluster_runs.proofs.Runs.{run_on}
+use Rattle.answer_causes.specs.AnswersRight.{AnswersRight}
+use Rattle.answer_causes.proofs.Right.{all_right}
 use Rattle.read_consistency.specs.ReadRight.{ReadRight}
 use Rattle.read_consistency.proofs.Traces.{run_right}
 use Rattle.cs_base.proofs.Slots.{some_one}
@@ -82,6 +84,10 @@ fresh_run c first h = reload_all c [] (length c.ring) first h.count h.each begun
 pub reached_right : (v : ClusterState) → IsReached v → AreFresh v.setting v.first → ReadRight v.setting v.chronicle
 reached_right v (w, run, shown) fresh =
     subst (λ (es : List Entry). ReadRight v.setting es) (sym shown.chronicle) (run_right v.setting w (run_on v.setting (start v.setting) (begin_of v.first) w (fresh_run v.setting v.first fresh) run))
+
+pub reached_causes : (v : ClusterState) → IsReached v → AreFresh v.setting v.first → AnswersRight v.setting v.chronicle
+reached_causes v (w, run, shown) fresh =
+    subst (λ (es : List Entry). AnswersRight v.setting es) (sym shown.chronicle) (all_right v.setting w (run_on v.setting (start v.setting) (begin_of v.first) w (fresh_run v.setting v.first fresh) run))
 
 -- ---- loaded nodes
 

@@ -6,7 +6,7 @@ use Rattle.std.proofs.lemmas.List.{map-set}
 use Rattle.cs_store.specs.declared.mem.MemStore.{MemStore}
 use Rattle.cs_store.specs.Mem.{disk_of}
 use Rattle.peer_messages.specs.declared.event.What.{What}
-use Rattle.peer_messages.specs.declared.event.What.TheVariants.{Client, Deliver, Alive, Flush, Tick}
+use Rattle.peer_messages.specs.declared.event.What.TheVariants.{Client, Deliver, Alive, Collect, Flush, Tick}
 use Rattle.peer_messages.specs.declared.chronicle.Entry.{Entry}
 use Rattle.peer_messages.specs.declared.chronicle.Entry.TheVariants.{Marks, Time}
 use Rattle.peer_messages.specs.declared.chronicle.Refusal.{Refusal}
@@ -159,6 +159,7 @@ turned_looks : (v : ClusterState) (k : â„•) (what : What) (refusal : Refusal) â†
 turned_looks v k (Client ask) refusal = refl
 turned_looks v k (Deliver m) refusal = refl
 turned_looks v k (Alive peer up) refusal = refl
+turned_looks v k (Collect request) refusal = refl
 turned_looks v k Flush refusal = refl
 turned_looks v k Tick refusal = refl
 

@@ -4,7 +4,7 @@ use Rattle.std.specs.declared.alloc.AllocError.{AllocError}
 use Rattle.std.specs.Prelude.{Result, Ok, Err, OnOk, OnErr, slice_get}
 use Rattle.peer_messages.specs.declared.message.Message.{Message}
 use Rattle.peer_messages.specs.declared.event.What.{What}
-use Rattle.peer_messages.specs.declared.event.What.TheVariants.{Client, Deliver, Alive, Flush, Tick}
+use Rattle.peer_messages.specs.declared.event.What.TheVariants.{Client, Deliver, Alive, Collect, Flush, Tick}
 use Rattle.peer_messages.specs.declared.chronicle.Refusal.{Refusal}
 use Rattle.peer_messages.specs.declared.chronicle.Refusal.TheVariants.{Overloaded, Invalid, Down as IsDown}
 use Rattle.peer_messages.specs.declared.chronicle.Invalid.TheVariants.{PartitionTooLarge}
@@ -27,6 +27,7 @@ turned_keeps : (v : ClusterState) (k : â„•) (what : What) (refusal : Refusal) â†
 turned_keeps v k (Client ask) refusal = record { setting = refl; first = refl }
 turned_keeps v k (Deliver m) refusal = itself v
 turned_keeps v k (Alive peer up) refusal = itself v
+turned_keeps v k (Collect request) refusal = itself v
 turned_keeps v k Flush refusal = itself v
 turned_keeps v k Tick refusal = itself v
 
@@ -87,6 +88,7 @@ takes_keep v v' (event.Crash k outcome) h = as_it (changed stopped v k) v v' h (
 takes_keep v v' (event.StopAt k j outcome) h = as_it (changed (told_of j (Stop j outcome)) v k) v v' h (changed_keeps (told_of j (Stop j outcome)) v k)
 takes_keep v v' (event.FailAt k j) h = as_it (changed (told_of j (Fail j)) v k) v v' h (changed_keeps (told_of j (Fail j)) v k)
 takes_keep v v' (event.Restart k) h = restarts_at v v' k (slice_get v.sites k) h
+takes_keep v v' (event.Collect k request) h = comes_keep v v' k (Collect request) h
 takes_keep v v' (event.Flush k) h = comes_keep v v' k Flush h
 takes_keep v v' (event.Merge k) h = comes_keep v v' k Flush h
 
@@ -101,6 +103,7 @@ stands_keep v v' (event.Crash k outcome) h = as_it v v v' h (itself v)
 stands_keep v v' (event.StopAt k j outcome) h = as_it v v v' h (itself v)
 stands_keep v v' (event.FailAt k j) h = as_it v v v' h (itself v)
 stands_keep v v' (event.Restart k) h = as_it v v v' h (itself v)
+stands_keep v v' (event.Collect k request) h = as_it v v v' h (itself v)
 stands_keep v v' (event.Flush k) h = as_it v v v' h (itself v)
 stands_keep v v' (event.Merge k) h = as_it v v v' h (itself v)
 

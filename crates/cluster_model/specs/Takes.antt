@@ -5,7 +5,7 @@ use Rattle.cs_store.specs.declared.mem_file.Outcome.{Outcome}
 use Rattle.peer_messages.specs.declared.message.Message.{Message}
 use Rattle.peer_messages.specs.declared.event.Event.{Event}
 use Rattle.peer_messages.specs.declared.event.What.{What}
-use Rattle.peer_messages.specs.declared.event.What.TheVariants.{Client, Deliver, Alive, Flush, Tick}
+use Rattle.peer_messages.specs.declared.event.What.TheVariants.{Client, Deliver, Alive, Collect, Flush, Tick}
 use Rattle.peer_messages.specs.declared.chronicle.Entry.TheVariants.{Asked, Turned, Stopped}
 use Rattle.peer_messages.specs.declared.chronicle.Invalid.TheVariants.{PartitionTooLarge}
 use Rattle.peer_messages.specs.declared.chronicle.Refusal.{Refusal}
@@ -38,6 +38,7 @@ abbrev pub turned_away : ClusterState → ℕ → What → Refusal → ClusterSt
 turned_away v k (Client ask) refusal = record v { chronicle = Turned k refusal ∷ Asked None ∷ v.chronicle }
 turned_away v k (Deliver m) refusal = v
 turned_away v k (Alive peer up) refusal = v
+turned_away v k (Collect request) refusal = v
 turned_away v k Flush refusal = v
 turned_away v k Tick refusal = v
 
@@ -179,6 +180,7 @@ Takes v (event.Lose from upto k) v' = v' ≡ lost v (place_of from upto k v.post
 Takes v (event.Settle n) v' = Settles n v v'
 Takes v (event.Clock k micros) v' = Comes (changed (set_clock micros) v k) k Tick v'
 Takes v (event.Alive k peer up) v' = Comes v k (Alive peer up) v'
+Takes v (event.Collect k request) v' = Comes v k (Collect request) v'
 Takes v (event.Crash k outcome) v' = v' ≡ changed stopped v k
 Takes v (event.StopAt k j outcome) v' = v' ≡ changed (told_of j (Stop j outcome)) v k
 Takes v (event.FailAt k j) v' = v' ≡ changed (told_of j (Fail j)) v k
@@ -194,6 +196,7 @@ Stands v (event.Lose from upto k) v' = v' ≡ v
 Stands v (event.Settle n) v' = SettlesInPart n v v'
 Stands v (event.Clock k micros) v' = v' ≡ v
 Stands v (event.Alive k peer up) v' = v' ≡ v
+Stands v (event.Collect k request) v' = v' ≡ v
 Stands v (event.Crash k outcome) v' = v' ≡ v
 Stands v (event.StopAt k j outcome) v' = v' ≡ v
 Stands v (event.FailAt k j) v' = v' ≡ v

@@ -1,7 +1,7 @@
 -- What comes of an event at a node is sent and entered.
 use Rattle.std.specs.Prelude.{ℕ, Bool, true, false, None, List, [], ◌∷◌, ◌++◌}
 use Rattle.peer_messages.specs.declared.event.What.{What}
-use Rattle.peer_messages.specs.declared.event.What.TheVariants.{Client, Deliver, Alive, Flush, Tick}
+use Rattle.peer_messages.specs.declared.event.What.TheVariants.{Client, Deliver, Alive, Collect, Flush, Tick}
 use Rattle.peer_messages.specs.declared.chronicle.Entry.{Entry}
 use Rattle.peer_messages.specs.declared.chronicle.Entry.TheVariants.{Asked, Marks, Time, Turned}
 use Rattle.node_steps.specs.Stops.{asked_by, remains}
@@ -14,6 +14,7 @@ abbrev pub asks : What → Bool
 asks (Client ask) = true
 asks (Deliver m) = false
 asks (Alive peer up) = false
+asks (Collect request) = false
 asks Flush = false
 asks Tick = false
 

@@ -6,7 +6,9 @@ ghost use Rattle.cluster_model.specs.declared.turn.Turn.TheVariants as turns;
 ghost use Rattle.cluster_model.specs.Mails.{HoldsMail, post_of};
 ghost use Rattle.cluster_model.specs.Annals.{HasRoom, IsSame, Enters, entries_of};
 
-use crate::entering::{add, asked, closing, failure, opening, remaining, turned};
+use crate::entering::{
+    add_piece, asked, close, failure, make_spare, opening, remaining, taken, turned,
+};
 use crate::mail::Mail;
 use crate::turn::Turn;
 use cs_base::NodeId;
@@ -19,32 +21,25 @@ use std::alloc::{AllocError, Global};
 pub(crate) struct Annals {
     pub mail: Mail,
     pub pieces: Vec<Entries>,
-}
-
-/// Memory for what stands before a node's own entries of an event, and behind them.
-#[derive(Drop)]
-pub(crate) struct Room {
-    pub first: Vec<Entry>,
-    pub last: Vec<Entry>,
+    /// Memory for what stands behind a node's own entries, which few events have.
+    pub spare: Vec<Entry>,
 }
 
 impl Annals {
-    /// Makes room for what one event enters and sends.
-    pub fn make_room(&mut self, alloc: Global) -> Result<Room, AllocError>
+    /// Makes room for what one event enters and sends; it gives the memory for what stands before a node's own entries.
+    pub fn make_room(&mut self, alloc: Global) -> Result<Vec<Entry>, AllocError>
         requires { HoldsMail self.old.mail }
         ensures same { IsSame self.old self.new }
         ensures room { IfOk result (λ room. HasRoom self.new room) }
     {
         self.mail.sort_in()?;
         self.pieces.reserve(3)?;
-        Ok(Room {
-            first: Vec::with_capacity(alloc, 3)?,
-            last: Vec::with_capacity(alloc, 1)?,
-        })
+        make_spare(&mut self.spare, alloc)?;
+        Vec::with_capacity(alloc, 3)
     }
 
     /// Enters and sends the outputs of a step.
-    fn enter_step(&mut self, node: NodeId, outputs: Outputs, alive: NodeIds, room: Room)
+    fn enter_step(&mut self, node: NodeId, outputs: Outputs, alive: NodeIds, room: Vec<Entry>)
         requires mail { HoldsMail self.old.mail }
         requires room { HasRoom self.old room }
         ensures { (asks : _) → Enters node asks (turns.Stepped outputs alive) self.old self.new }
@@ -57,29 +52,27 @@ impl Annals {
             tables,
             refused: _,
         } = outputs;
-        add(
-            &mut self.pieces,
-            opening(room.first, node, started, alive, time),
-        );
-        add(&mut self.pieces, entries);
-        add(&mut self.pieces, closing(room.last, node, tables));
+        add_piece(&mut self.pieces, opening(room, node, started, alive, time));
+        add_piece(&mut self.pieces, entries);
+        close(&mut self.pieces, &mut self.spare, node, tables);
         self.mail.send(sends);
     }
 
     /// Enters what remains of a step in which its node stopped.
-    fn enter_stop(&mut self, node: NodeId, lost: Lost, has_failed: bool, room: Room)
+    fn enter_stop(&mut self, node: NodeId, lost: Lost, has_failed: bool, room: Vec<Entry>)
         requires mail { HoldsMail self.old.mail }
         requires room { HasRoom self.old room }
         ensures { (asks : _) → Enters node asks (turns.Stopped lost has_failed) self.old self.new }
     {
         let Lost { started, entries } = lost;
-        add(&mut self.pieces, asked(room.first, started));
-        add(&mut self.pieces, remaining(entries));
-        add(&mut self.pieces, failure(room.last, node, has_failed));
+        let spare = taken(&mut self.spare);
+        add_piece(&mut self.pieces, asked(room, started));
+        add_piece(&mut self.pieces, remaining(entries));
+        add_piece(&mut self.pieces, failure(spare, node, has_failed));
     }
 
     /// Enters and sends what comes of an event.
-    pub fn enter(&mut self, node: NodeId, is_ask: bool, turn: Turn, room: Room)
+    pub fn enter(&mut self, node: NodeId, is_ask: bool, turn: Turn, room: Vec<Entry>)
         requires mail { HoldsMail self.old.mail }
         requires room { HasRoom self.old room }
         ensures { Enters node is_ask turn self.old self.new }
@@ -89,7 +82,7 @@ impl Annals {
             Turn::Stopped(lost, has_failed) => self.enter_stop(node, lost, has_failed, room),
             Turn::Refused(refusal) => {
                 if is_ask {
-                    add(&mut self.pieces, turned(room.first, node, refusal));
+                    add_piece(&mut self.pieces, turned(room, node, refusal));
                 }
             }
             Turn::NoNode => {}
@@ -97,11 +90,11 @@ impl Annals {
     }
 
     /// Enters that a load failed.
-    pub fn enter_failure(&mut self, node: NodeId, room: Room)
+    pub fn enter_failure(&mut self, node: NodeId, room: Vec<Entry>)
         requires { HasRoom self.old room }
         ensures entries { entries_of self.new ≡ entries_of self.old ++ entry.Stopped node ∷ [] }
         ensures mail { self.new.mail ≡ self.old.mail }
     {
-        add(&mut self.pieces, failure(room.last, node, true));
+        add_piece(&mut self.pieces, failure(room, node, true));
     }
 }

@@ -7,6 +7,7 @@ ghost use Rattle.cluster_model.specs.Sites.{keeper};
 ghost use Rattle.cluster_model.specs.Annals.{joined};
 ghost use Rattle.cluster_model.specs.Holding.{Holds, state_of};
 ghost use Rattle.cluster_model.specs.Beginning.{IsSeated, AreSeated, Begins, IsDamagedAt};
+ghost use Rattle.answer_causes.specs.AnswersRight.{AnswersRight};
 ghost use Rattle.read_consistency.specs.ReadRight.{ReadRight};
 
 use crate::annals::Annals;
@@ -116,6 +117,7 @@ fn parts_of<R: MemReplica>(
         annals: Annals {
             mail: Mail::new(alloc)?,
             pieces: Vec::new(alloc),
+            spare: Vec::new(alloc),
         },
     })
 }
@@ -145,7 +147,8 @@ impl<R: MemReplica> Cluster<R> {
     }
 
     /// Takes one event. Whatever came before it, the cluster has come to this by a run from what its nodes were loaded with; and
-    /// each answered read of its chronicle is right, if its stores were formatted.
+    /// each answered read of its chronicle is right, if its stores were formatted, and each request is told what it is told for its
+    /// cause.
     ///
     /// After an error nothing of the event has happened, but for the deliveries of a settling that were made before.
     pub fn step(&mut self, alloc: Global, event: ClusterEvent) -> Result<(), AllocError>
@@ -154,6 +157,7 @@ impl<R: MemReplica> Cluster<R> {
         ensures keeps { KeepsOn self.old self.new }
         ensures reached { IsReached self.new }
         ensures right { AreFresh self.new.setting self.new.first → ReadRight self.new.setting self.new.chronicle }
+        ensures causes { AreFresh self.new.setting self.new.first → AnswersRight self.new.setting self.new.chronicle }
     {
         self.parts.take_event(alloc, event)
     }
@@ -163,6 +167,7 @@ impl<R: MemReplica> Cluster<R> {
         ensures entries { reverse (joined result.now) ≡ self.now.chronicle }
         ensures reached { IsReached self.now }
         ensures right { AreFresh self.now.setting self.now.first → ReadRight self.now.setting self.now.chronicle }
+        ensures causes { AreFresh self.now.setting self.now.first → AnswersRight self.now.setting self.now.chronicle }
     {
         &self.parts.annals.pieces
     }

@@ -1,6 +1,6 @@
 //! What may happen to a cluster.
 
-use cs_base::{Micros, NodeId};
+use cs_base::{Micros, NodeId, ReqId};
 use cs_store::Outcome;
 use peer_messages::Ask;
 
@@ -23,6 +23,8 @@ pub enum ClusterEvent {
     Clock(NodeId, Micros),
     /// The first node takes the second one for alive, or else for dead.
     Alive(NodeId, NodeId, bool),
+    /// The answer of a request is asked for, which is nothing of the node itself: it takes the time.
+    Collect(NodeId, ReqId),
     /// The node crashes, with this outcome for what its store has pending. Faults that its store was told are forgotten.
     Crash(NodeId, Outcome),
     /// The node stops at this call of its store from now, or from its next load, counted from 1. At 0 nothing happens.

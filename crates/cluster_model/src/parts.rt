@@ -53,7 +53,7 @@ fn is_ask(what: &What) -> bool
 {
     match what {
         What::Client(_) => true,
-        What::Deliver(_) | What::Alive(..) | What::Flush | What::Tick => false,
+        What::Deliver(_) | What::Alive(..) | What::Collect(_) | What::Flush | What::Tick => false,
     }
 }
 
@@ -127,6 +127,7 @@ fn tell_at<R: MemReplica>(
 
 impl<R: MemReplica> Parts<R> {
     /// The event comes to the node. An error leaves all as it was.
+    #[inline(always)]
     pub fn take(&mut self, alloc: Global, node: NodeId, what: What) -> Result<(), AllocError>
         requires holds { Holds (keeper R.stands_for R.durable R.disk R.is_whole) self.old }
         requires sent { WasSent (post_of self.old.annals.mail).sent node what }
@@ -303,6 +304,7 @@ impl<R: MemReplica> Parts<R> {
             ClusterEvent::Settle(count) => self.settle(alloc, count),
             ClusterEvent::Clock(node, micros) => self.tick(alloc, node, micros),
             ClusterEvent::Alive(node, peer, up) => self.take(alloc, node, What::Alive(peer, up)),
+            ClusterEvent::Collect(node, request) => self.take(alloc, node, What::Collect(request)),
             ClusterEvent::Crash(node, outcome) => {
                 self.crash(node, outcome);
                 Ok(())

@@ -2,3 +2,4 @@ pub mod ProgramLaws
 pub mod RunLaws
 pub mod StopLaws
 pub mod StreamLaws
+mod KvLaws

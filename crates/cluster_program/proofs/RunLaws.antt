@@ -8,6 +8,7 @@ use Rattle.cs_store.specs.Images.{Images, quiet, formatted_bytes}
 use Rattle.cs_store.specs.Mem.{images_of}
 use Rattle.peer_messages.specs.declared.chronicle.Entry.{Entry}
 use Rattle.peer_messages.specs.declared.setting.Setting.{Setting}
+use Rattle.answer_causes.specs.AnswersRight.{AnswersRight}
 use Rattle.read_consistency.specs.ReadRight.{ReadRight}
 use Rattle.schema_book.specs.Books.{Book}
 use Rattle.schema_book.specs.declared.table.Table.{Table}
@@ -99,8 +100,8 @@ keeps_more v mid v' before then_on = record { setting = then_on.setting ∙ befo
 -- ---- the whole run
 
 pub in_print : (script : Script) (text : List ℕ) (tables : List Table) (c : Setting) (before after : ClusterState) (es : List ScriptEvent) → KeepsOn before after → c ≡ setting_of script → IsFresh c before → es ≡ script.events → tables ≡ script.schema.tables
-    → Plays script.schema None before es after → IsReached after → (AreFresh after.setting after.first → ReadRight after.setting after.chronicle) → IsInPrint tables after.chronicle text → IsRunInPrint script text
-in_print script text tables c before after es kept setting fresh events same plays reached right print =
+    → Plays script.schema None before es after → IsReached after → (AreFresh after.setting after.first → ReadRight after.setting after.chronicle) → (AreFresh after.setting after.first → AnswersRight after.setting after.chronicle) → IsInPrint tables after.chronicle text → IsRunInPrint script text
+in_print script text tables c before after es kept setting fresh events same plays reached right causes print =
     let same_setting : after.setting ≡ c = kept.setting ∙ fresh.setting in
     let as_first : AreFresh c after.first = subst (AreFresh c) (sym kept.first) fresh.first in
     let of_setting : AreFresh after.setting after.first = subst (λ (d : Setting). AreFresh d after.first) (sym same_setting) as_first in
@@ -112,6 +113,7 @@ in_print script text tables c before after es kept setting fresh events same pla
       reached = reached;
       named = subst (λ (xs : List ScriptEvent). StopsAreNamed xs after.sites) events (stops_are_named script.schema es before after before.first fresh.sites plays);
       right = subst (λ (d : Setting). ReadRight d after.chronicle) (same_setting ∙ setting) (right of_setting);
+      causes = subst (λ (d : Setting). AnswersRight d after.chronicle) (same_setting ∙ setting) (causes of_setting);
       print = subst (λ (ts : List Table). IsInPrint ts after.chronicle text) same print;
     }
 

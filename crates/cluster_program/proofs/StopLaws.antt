@@ -7,7 +7,7 @@ use Rattle.cs_base.proofs.Slots.{get_set}
 use Rattle.cs_base.proofs.Members.{contains_nil}
 use Rattle.peer_messages.specs.declared.message.Message.{Message}
 use Rattle.peer_messages.specs.declared.event.What.{What}
-use Rattle.peer_messages.specs.declared.event.What.TheVariants.{Client, Deliver, Alive, Flush, Tick}
+use Rattle.peer_messages.specs.declared.event.What.TheVariants.{Client, Deliver, Alive, Collect, Flush, Tick}
 use Rattle.peer_messages.specs.declared.chronicle.Refusal.{Refusal}
 use Rattle.schema_book.specs.Books.{Book}
 use Rattle.node_steps.specs.State.{NodeState}
@@ -50,6 +50,7 @@ away_sites : (v : ClusterState) (k : ℕ) (what : What) (refusal : Refusal) → 
 away_sites v k (Client ask) refusal = refl
 away_sites v k (Deliver m) refusal = refl
 away_sites v k (Alive peer up) refusal = refl
+away_sites v k (Collect request) refusal = refl
 away_sites v k Flush refusal = refl
 away_sites v k Tick refusal = refl
 
@@ -127,6 +128,7 @@ Spares k (event.Crash j outcome) = j ≢ k
 Spares k (event.StopAt j call outcome) = j ≢ k
 Spares k (event.FailAt j call) = j ≢ k
 Spares k (event.Restart j) = Unit {0}
+Spares k (event.Collect j request) = Unit {0}
 Spares k (event.Flush j) = Unit {0}
 Spares k (event.Merge j) = Unit {0}
 
@@ -146,6 +148,7 @@ takes (event.Crash j outcome) v v' k spares well h = apart_well stopped v v' j k
 takes (event.StopAt j call outcome) v v' k spares well h = apart_well (told_of call (Stop call outcome)) v v' j k spares well h
 takes (event.FailAt j call) v v' k spares well h = apart_well (told_of call (Fail call)) v v' j k spares well h
 takes (event.Restart j) v v' k spares well h = restarts_at v v' j (slice_get v.sites j) k refl well h
+takes (event.Collect j request) v v' k spares well h = comes v v' j (Collect request) k well h
 takes (event.Flush j) v v' k spares well h = comes v v' j Flush k well h
 takes (event.Merge j) v v' k spares well h = comes v v' j Flush k well h
 
@@ -161,6 +164,7 @@ line_spares book keyspace k (line.Deliver place) e other is = spares_by k e _ is
 line_spares book keyspace k (line.Drop place) e other is = spares_by k e _ is tt
 line_spares book keyspace k (line.Settle count) e other is = spares_by k e _ is tt
 line_spares book keyspace k (line.Clock node micros) e other is = spares_by k e _ is tt
+line_spares book keyspace k (line.Mark node peer up) e other is = spares_by k e _ is tt
 line_spares book keyspace k (line.Crash node outcome) e other is = spares_by k e _ is (eqb-false node k other)
 line_spares book keyspace k (line.StopAt node call outcome) e other is = spares_by k e _ is (eqb-false node k other)
 line_spares book keyspace k (line.FailAt node call) e other is = spares_by k e _ is (eqb-false node k other)

@@ -1,6 +1,7 @@
 pub mod Commands
 pub mod Endings
 pub mod Requests
+pub mod Lines
 pub mod Runs
 pub mod Stops
 pub mod Streams

@@ -1,5 +1,5 @@
 -- What the lines of a script ask of a cluster.
-use Rattle.std.specs.Prelude.{◌≡◌, ◌⊎◌, ◌*◌, ℕ, ℤ, Option, Some, None, List, [], ◌∷◌, map, codes}
+use Rattle.std.specs.Prelude.{◌≡◌, ◌⊎◌, ◌*◌, ℕ, ℤ, Option, Some, None, Result, Ok, Err, List, [], ◌∷◌, map, codes}
 use Rattle.cs_base.specs.declared.level.Level.{Level}
 use Rattle.cql_values.specs.Literals.{literal_text}
 use Rattle.cql_values.specs.declared.value.CqlValue.TheVariants as values
@@ -22,6 +22,8 @@ use Rattle.statement_plan.specs.declared.fault.Feature.TheVariants as feature
 use Rattle.statement_plan.specs.declared.plan.Plan.{Plan}
 use Rattle.statement_plan.specs.declared.plan.Plan.TheVariants as bound
 use Rattle.statement_binder.specs.Meanings.{meaning_of, IsPlan, IsRefusal}
+use Rattle.statement_binder.specs.declared.error.BindError.{BindError}
+use Rattle.statement_binder.specs.declared.error.BindError.TheVariants as error
 use Rattle.peer_messages.specs.declared.event.Plan.{Plan as NodePlan}
 use Rattle.peer_messages.specs.declared.event.Plan.TheVariants as plan
 use Rattle.peer_messages.specs.declared.setting.Setting.{Setting}
@@ -54,28 +56,34 @@ text_term text = Constant (record { kind = kinds.Str; text = literal_text (value
 abbrev pub number_term : ℤ → Term
 number_term number = Constant (record { kind = kinds.Whole; text = literal_text (values.Bigint number) })
 
-abbrev pub equals : List ℕ → List ℕ → Relation
-equals column text = record { column = column; operator = Equal; term = text_term text }
+abbrev pub equals_by : List ℕ → Term → Relation
+equals_by column term = record { column = column; operator = Equal; term = term }
 
 -- UPDATE script.kv USING TIMESTAMP <timestamp> SET v = <value> WHERE k = <key> AND c = <row>
-abbrev pub put_statement : PutRequest → Statement
-put_statement put = statement.Update (record {
+abbrev pub put_by : Term → Term → Term → Term → Statement
+put_by timestamp value key row = statement.Update (record {
   table = kv_table;
-  stamp = Some (record { timestamp = number_term put.timestamp });
-  assignments = record { column = codes "v"; term = text_term put.value } ∷ [];
-  relations = equals (codes "k") put.key ∷ equals (codes "c") put.row ∷ [];
+  stamp = Some (record { timestamp = timestamp });
+  assignments = record { column = codes "v"; term = value } ∷ [];
+  relations = equals_by (codes "k") key ∷ equals_by (codes "c") row ∷ [];
   condition = None;
 })
 
+abbrev pub put_statement : PutRequest → Statement
+put_statement put = put_by (number_term put.timestamp) (text_term put.value) (text_term put.key) (text_term put.row)
+
 -- SELECT c, v FROM script.kv WHERE k = <key>
-abbrev pub get_statement : GetRequest → Statement
-get_statement get = statement.Select (record {
+abbrev pub get_by : Term → Statement
+get_by key = statement.Select (record {
   selection = selection.Columns (codes "c" ∷ codes "v" ∷ []);
   table = kv_table;
-  relations = equals (codes "k") get.key ∷ [];
+  relations = equals_by (codes "k") key ∷ [];
   orders = [];
   limit = None;
 })
+
+abbrev pub get_statement : GetRequest → Statement
+get_statement get = get_by (text_term get.key)
 
 -- ---- what a statement asks of a node
 
@@ -90,6 +98,12 @@ asked_of (bound.Read query columns) = plan.Read query columns
 asked_of (bound.Conditional operation) = plan.Invalid (fault.NotSupported feature.Condition)
 asked_of (bound.Use keyspace) = plan.Use keyspace
 
+-- what was bound asks this of the node
+abbrev pub IsAskedBy : Result Plan BindError → NodePlan → Type 0
+IsAskedBy (Ok b) p = p ≡ asked_of b
+IsAskedBy (Err (error.Refused f)) p = p ≡ plan.Invalid f
+IsAskedBy (Err error.NoMemory) p = ⊥
+
 -- the statement's plan, or its refusal, for a schema and the keyspace in use
 abbrev pub AsksFor : Book → Option (List ℕ) → Statement → NodePlan → Type 0
 AsksFor book keyspace s p =
@@ -100,6 +114,9 @@ AsksFor book keyspace s p =
 abbrev pub AsksAt : Book → Option (List ℕ) → ℕ → Level → Statement → ClusterEvent → Type 0
 AsksAt book keyspace node level s e = (p : NodePlan) × AsksFor book keyspace s p × (e ≡ cluster.Ask node (record { plan = p; level = level }))
 
+abbrev pub AsksBy : Result Plan BindError → ℕ → Level → ClusterEvent → Type 0
+AsksBy bound node level e = (p : NodePlan) × IsAskedBy bound p × (e ≡ cluster.Ask node (record { plan = p; level = level }))
+
 -- what a line does to the cluster
 abbrev pub IsEventOf : Book → Option (List ℕ) → ScriptEvent → ClusterEvent → Type 0
 IsEventOf book keyspace (line.Put put) e = AsksAt book keyspace put.node put.level (put_statement put) e
@@ -109,6 +126,7 @@ IsEventOf book keyspace (line.Deliver place) e = e ≡ cluster.Deliver place.fro
 IsEventOf book keyspace (line.Drop place) e = e ≡ cluster.Lose place.from place.upto place.number
 IsEventOf book keyspace (line.Settle count) e = e ≡ cluster.Settle count
 IsEventOf book keyspace (line.Clock node micros) e = e ≡ cluster.Clock node micros
+IsEventOf book keyspace (line.Mark node peer up) e = e ≡ cluster.Alive node peer up
 IsEventOf book keyspace (line.Crash node outcome) e = e ≡ cluster.Crash node outcome
 IsEventOf book keyspace (line.StopAt node call outcome) e = e ≡ cluster.StopAt node call outcome
 IsEventOf book keyspace (line.FailAt node call) e = e ≡ cluster.FailAt node call

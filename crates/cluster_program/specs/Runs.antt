@@ -1,5 +1,6 @@
 -- A text that is the run of a script in print.
 use Rattle.std.specs.Prelude.{◌≡◌, ℕ, Option, Some, None, List, [], ◌∷◌, map}
+use Rattle.answer_causes.specs.AnswersRight.{AnswersRight}
 use Rattle.read_consistency.specs.ReadRight.{ReadRight}
 use Rattle.schema_book.specs.Books.{Book}
 use Rattle.peer_messages.specs.declared.chronicle.Entry.{Entry}
@@ -47,7 +48,7 @@ pub record IsFresh (c : Setting) (v : ClusterState) : Type 0 where
   pub chronicle : v.chronicle ≡ []
 
 -- The text is the printed chronicle of a run of fresh nodes with just the script's events, in which each answered read is
--- right, and each node runs on that no line stops
+-- right, each request is told what it is told for its cause, and each node runs on that no line stops
 pub record IsRunInPrint (script : Script) (text : List ℕ) : Type 0 where
   pub before : ClusterState
   pub after : ClusterState
@@ -56,4 +57,5 @@ pub record IsRunInPrint (script : Script) (text : List ℕ) : Type 0 where
   pub reached : IsReached after
   pub named : StopsAreNamed script.events after.sites
   pub right : ReadRight (setting_of script) after.chronicle
+  pub causes : AnswersRight (setting_of script) after.chronicle
   pub print : IsInPrint script.schema.tables after.chronicle text

@@ -14,6 +14,7 @@ names_stop k (line.Deliver place) = false
 names_stop k (line.Drop place) = false
 names_stop k (line.Settle count) = false
 names_stop k (line.Clock node micros) = false
+names_stop k (line.Mark node peer up) = false
 names_stop k (line.Crash node outcome) = node == k
 names_stop k (line.StopAt node call outcome) = node == k
 names_stop k (line.FailAt node call) = node == k

@@ -9,10 +9,12 @@ ghost use Rattle.fault_script.specs.declared.script.Script.{Script as script_val
 ghost use Rattle.fault_script.specs.declared.script.ScriptError.{ScriptError};
 ghost use Rattle.cluster_program.specs.Commands.{command_of_name, command_named, usage_line, help_text, version_text};
 ghost use Rattle.cluster_program.specs.Endings.{IsTold, IsRunOf, LeavesLine, RefusesScript, IsRefusalStatus, IsRefusedWith, IsServedWith, IsRefused, of_read, of_parse, error_line as error_line_of};
+ghost use Rattle.cluster_program.specs.Lines.{HasKv};
 ghost use Rattle.cluster_program.specs.Streams.{WritesAll, WritesFront};
 ghost use Rattle.cluster_program.specs.declared.program.Refusal.TheVariants.{NoMemory as RefusalMemory};
 
 use crate::run::run;
+use crate::statements::scripts_have_kv;
 use crate::streams::{ReadError, read_all, write_all};
 use chronicle_print::push_number;
 use cs_base::Failed;
@@ -117,10 +119,12 @@ fn read_script<S: Source>(alloc: Global, source: &mut S) -> Result<Script, Refus
     ensures end { OnOk result (IfSome (S.remaining source.old) (λ _. S.remaining source.new ≡ Some [])) }
     ensures refused { IfErr result (λ r. IfSome (S.remaining source.old) (λ left. IsRefused left r)) }
     ensures said { IfOk result (λ script. All IsSaid script.events) }
+    ensures kv { IfOk result (λ script. HasKv script.schema) }
     ensures expiry { IfOk result (λ script. script.expiry ≤ 100000) }
     ensures failed { IsErrOf result Refusal.ReadFault → HasRisen (S.faults source.old) (S.faults source.new) }
 {
     statements_are_read();
+    scripts_have_kv();
     scripts_have_an_expiry();
     let text = read_all(alloc, source)?;
     Ok(parse(alloc, &text)?)

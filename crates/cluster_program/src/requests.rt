@@ -1,19 +1,18 @@
 //! What the lines of a script ask of a cluster.
 
-ghost use Rattle.std.specs.Prelude.{◌≡◌, ◌≤◌, ℕ, List, map, IfOk, option_copied};
-ghost use Rattle.cql_statement.specs.declared.statement.Statement.{Statement as statement_value};
-ghost use Rattle.fault_script.specs.Script.{IsOneStatement, IsSaid};
-ghost use Rattle.cluster_program.specs.Requests.{table_setting, setting_of as setting_of_script, put_statement, get_statement, asked_of, AsksFor, AsksAt, IsEventOf};
+ghost use Rattle.std.specs.Prelude.{◌≡◌, ◌≤◌, map, IfOk, option_copied};
+ghost use Rattle.fault_script.specs.Script.{IsSaid};
+ghost use Rattle.cluster_program.specs.Requests.{table_setting, setting_of as setting_of_script, asked_of, IsAskedBy, AsksAt, AsksBy, IsEventOf};
+ghost use Rattle.cluster_program.specs.Lines.{ArePrepared, HasKv, IsEventBy};
 
-use crate::statements::{statement_of_get, statement_of_put};
+use crate::statements::{LineStatements, get_values, put_values, text_is_read, timestamp_is_read};
 use cluster_model::ClusterEvent;
-use cql_parser::{ParseError, parse};
 use cql_statement::Statement;
 use cs_base::{Items, Level, Micros, NodeId};
 use fault_script::{CqlRequest, GetRequest, PutRequest, Script, ScriptEvent};
 use peer_messages::{Ask, Plan, Setting, TableSetting, TableSettings};
 use schema_book::{Schema, Table};
-use statement_binder::{BindError, bind};
+use statement_binder::{BindError, Values, bind, fill};
 use statement_plan::{Fault, Feature};
 use statement_values::Params;
 use std::alloc::{AllocError, Global};
@@ -59,33 +58,27 @@ fn asked(plan: statement_plan::Plan) -> Plan
     }
 }
 
-/// What a node is asked for a statement, in a schema and with a keyspace in use.
-fn plan_of(
-    alloc: Global,
-    schema: &Schema,
-    keyspace: Option<&str>,
-    statement: &Statement,
-) -> Result<Plan, AllocError>
-    ensures { IfOk result (λ plan. AsksFor schema.now (option_copied keyspace.entry) statement.now plan) }
+/// What a node is asked for a statement that was bound.
+fn asked_by(bound: Result<statement_plan::Plan, BindError>) -> Result<Plan, AllocError>
+    ensures { IfOk result (IsAskedBy bound) }
 {
-    let no_values = Params::ByPlace(Items::new(alloc));
-    match bind(alloc, schema, keyspace, statement, &no_values, None) {
+    match bound {
         Ok(plan) => Ok(asked(plan)),
         Err(BindError::Refused(fault)) => Ok(Plan::Invalid(fault)),
         Err(BindError::NoMemory) => Err(AllocError),
     }
 }
 
-/// The statement of a line `cql`, whose text was read as one before.
-fn statement_of(alloc: Global, text: &str) -> Result<Statement, AllocError>
-    requires { (s : statement_value) × IsOneStatement text.now s }
-    ensures { IfOk result (IsOneStatement text.now) }
+/// What is asked of a node, at a level.
+fn ask_by(
+    bound: Result<statement_plan::Plan, BindError>,
+    node: NodeId,
+    level: Level,
+) -> Result<ClusterEvent, AllocError>
+    ensures { IfOk result (AsksBy bound node level) }
 {
-    match parse(alloc, text) {
-        Ok(statement) => Ok(statement),
-        Err(ParseError::NoMemory) => Err(AllocError),
-        Err(_) => unreachable!(),
-    }
+    let plan = asked_by(bound)?;
+    Ok(ClusterEvent::Ask(node, Ask { plan, level }))
 }
 
 /// What a node is asked for a statement, at a level.
@@ -95,12 +88,13 @@ fn ask_for(
     keyspace: Option<&str>,
     node: NodeId,
     level: Level,
-    statement: Statement,
+    statement: &Statement,
 ) -> Result<ClusterEvent, AllocError>
-    ensures { IfOk result (AsksAt schema.now (option_copied keyspace.entry) node level statement) }
+    ensures { IfOk result (AsksAt schema.now (option_copied keyspace.entry) node level statement.now) }
 {
-    let plan = plan_of(alloc, schema, keyspace, &statement)?;
-    Ok(ClusterEvent::Ask(node, Ask { plan, level }))
+    let no_values = Params::ByPlace(Items::new(alloc));
+    let bound = bind(alloc, schema, keyspace, statement, &no_values, None);
+    ask_by(bound, node, level)
 }
 
 fn cql_event(
@@ -112,54 +106,62 @@ fn cql_event(
     requires { IsSaid (ScriptEvent.Cql request.now) }
     ensures { IfOk result (IsEventOf schema.now (option_copied keyspace.entry) (ScriptEvent.Cql request.now)) }
 {
-    let statement = statement_of(alloc, request.text.as_str())?;
     ask_for(
         alloc,
         schema,
         keyspace,
         request.node,
         request.level,
-        statement,
+        &request.statement,
     )
 }
 
 fn put_event(
     alloc: Global,
-    schema: &Schema,
-    keyspace: Option<&str>,
+    lines: &LineStatements,
     put: &PutRequest,
 ) -> Result<ClusterEvent, AllocError>
-    ensures { IfOk result (IsEventOf schema.now (option_copied keyspace.entry) (ScriptEvent.Put put.now)) }
+    ensures { IfOk result (IsEventBy lines.now (ScriptEvent.Put put.now)) }
 {
-    let statement = statement_of_put(alloc, put)?;
-    ask_for(alloc, schema, keyspace, put.node, put.level, statement)
+    timestamp_is_read(put);
+    text_is_read(put.value.as_str());
+    text_is_read(put.key.as_str());
+    text_is_read(put.row.as_str());
+    let values = put_values(alloc, put)?;
+    let bound = fill(alloc, &lines.put, Values::Whole(&values), None);
+    ask_by(bound, put.node, put.level)
 }
 
 fn get_event(
     alloc: Global,
-    schema: &Schema,
-    keyspace: Option<&str>,
+    lines: &LineStatements,
     get: &GetRequest,
 ) -> Result<ClusterEvent, AllocError>
-    ensures { IfOk result (IsEventOf schema.now (option_copied keyspace.entry) (ScriptEvent.Get get.now)) }
+    ensures { IfOk result (IsEventBy lines.now (ScriptEvent.Get get.now)) }
 {
-    let statement = statement_of_get(alloc, get)?;
-    ask_for(alloc, schema, keyspace, get.node, get.level, statement)
+    text_is_read(get.key.as_str());
+    let values = get_values(alloc, get)?;
+    let bound = fill(alloc, &lines.get, Values::Whole(&values), None);
+    ask_by(bound, get.node, get.level)
 }
 
-/// What a line does to the cluster, in a schema and with a keyspace in use.
+/// What a line does to the cluster, in a schema and with a keyspace in use. `lines` are the statements of `put` and `get`,
+/// prepared in this schema.
 pub fn event_of(
     alloc: Global,
     schema: &Schema,
+    lines: &LineStatements,
     keyspace: Option<&str>,
     line: &ScriptEvent,
 ) -> Result<ClusterEvent, AllocError>
-    requires { IsSaid line.now }
+    requires said { IsSaid line.now }
+    requires kv { HasKv schema.now }
+    requires prepared { ArePrepared schema.now lines.now }
     ensures { IfOk result (IsEventOf schema.now (option_copied keyspace.entry) line.now) }
 {
     match line {
-        ScriptEvent::Put(put) => put_event(alloc, schema, keyspace, put),
-        ScriptEvent::Get(get) => get_event(alloc, schema, keyspace, get),
+        ScriptEvent::Put(put) => put_event(alloc, lines, put),
+        ScriptEvent::Get(get) => get_event(alloc, lines, get),
         ScriptEvent::Cql(request) => cql_event(alloc, schema, keyspace, request),
         ScriptEvent::Deliver(place) => Ok(ClusterEvent::Deliver(
             place.from,
@@ -169,6 +171,7 @@ pub fn event_of(
         ScriptEvent::Drop(place) => Ok(ClusterEvent::Lose(place.from, place.upto, place.number)),
         ScriptEvent::Settle(count) => Ok(ClusterEvent::Settle(*count)),
         ScriptEvent::Clock(node, micros) => Ok(ClusterEvent::Clock(*node, *micros)),
+        ScriptEvent::Mark(node, peer, up) => Ok(ClusterEvent::Alive(*node, *peer, *up)),
         ScriptEvent::Crash(node, outcome) => Ok(ClusterEvent::Crash(*node, *outcome)),
         ScriptEvent::StopAt(node, call, outcome) => {
             Ok(ClusterEvent::StopAt(*node, *call, *outcome))

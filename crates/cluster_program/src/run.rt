@@ -6,9 +6,11 @@ ghost use Rattle.chronicle_print.specs.Printed.{joined};
 ghost use Rattle.peer_messages.specs.declared.setting.Setting.{Setting as setting_value};
 ghost use Rattle.cluster_model.specs.Beginning.{AreFormatted};
 ghost use Rattle.cluster_model.specs.State.{KeepsOn};
+ghost use Rattle.cluster_program.specs.Lines.{ArePrepared, HasKv};
 ghost use Rattle.cluster_program.specs.Runs.{newest as newest_of, keyspace_after as keyspace_after_entries, IsFresh, IsRunInPrint, Plays};
 
 use crate::requests::{event_of, setting_of};
+use crate::statements::LineStatements;
 use chronicle_print::print_chronicle;
 use cluster_model::{Cluster, ClusterError};
 use cs_base::Text;
@@ -86,16 +88,19 @@ fn begin<R: MemReplica>(alloc: Global, setting: Setting) -> Result<Cluster<R>, A
 fn play<R: MemReplica>(
     alloc: Global,
     schema: &Schema,
+    lines: &LineStatements,
     cluster: &mut Cluster<R>,
     events: &[ScriptEvent],
 ) -> Result<(), AllocError>
-    requires { All IsSaid events.now }
+    requires said { All IsSaid events.now }
+    requires kv { HasKv schema.now }
+    requires prepared { ArePrepared schema.now lines.now }
     ensures plays { OnOk result (Plays schema.now None cluster.old events.now cluster.new) }
     ensures keeps { OnOk result (KeepsOn cluster.old cluster.new) }
 {
     let mut keyspace = None;
     for event in events {
-        let event = event_of(alloc, schema, name_of(&keyspace), event)?;
+        let event = event_of(alloc, schema, lines, name_of(&keyspace), event)?;
         cluster.step(alloc, event)?;
         keyspace = keyspace_after(alloc, keyspace, cluster.chronicle())?;
     }
@@ -105,13 +110,16 @@ fn play<R: MemReplica>(
 /// The printed chronicle of the run of a script.
 pub fn run<R: MemReplica>(alloc: Global, script: &Script) -> Result<Vec<u8>, AllocError>
     requires said { All IsSaid script.now.events }
+    requires kv { HasKv script.now.schema }
     requires expiry { script.now.expiry ≤ 100000 }
     ensures { IfOk result (λ text. IsRunInPrint script.now text.items) }
 {
     let mut cluster = begin::<R>(alloc, setting_of(alloc, script)?)?;
+    let lines = LineStatements::prepare(alloc, &script.schema)?;
     play(
         alloc,
         &script.schema,
+        &lines,
         &mut cluster,
         script.events.as_slice(),
     )?;

@@ -1,16 +1,63 @@
-//! The statements of the lines `put` and `get`, which are for the table `script.kv (k text, c text, v text, PRIMARY KEY (k, c))`.
+//! The statements of the lines `put` and `get`, which are for the table `script.kv (k text, c text, v text, PRIMARY KEY (k, c))`:
+//! prepared once a run, with a marker for each word of a line.
 
 ghost use Rattle.std.specs.Prelude.{◌≡◌, IfOk};
-ghost use Rattle.cluster_program.specs.Requests.{kv_table as kv_table_of, text_term as text_term_of, number_term as number_term_of, equals as equals_of, put_statement, get_statement};
+ghost use Rattle.std.specs.Int.{cast_unsigned, to_be_bytes, w64};
+ghost use Rattle.cql_values.specs.declared.value.CqlType.TheVariants as types;
+ghost use Rattle.prepared_statement.specs.Slots.{stands_for};
+ghost use Rattle.prepared_statement.specs.declared.slot.Stands.TheVariants.{Own};
+ghost use Rattle.statement_values.specs.declared.params.Param.TheVariants.{Given};
+ghost use Rattle.cluster_program.specs.Requests.{kv_table as kv_table_of, text_term, number_term};
+ghost use Rattle.cluster_program.specs.Lines.{ArePrepared, ScriptsHaveKv, marker_for, marked_put as marked_put_of, marked_get as marked_get_of, put_values as put_values_of, get_values as get_values_of};
 
 use cql_statement::{
     Assignment, Relation, RelationOperator, Select, Selection, Stamp, Statement, TableName, Term,
     Update,
 };
-use cql_values::{CqlValue, Literal, LiteralKind, print_literal};
-use cs_base::{Items, Text};
-use fault_script::{GetRequest, PutRequest};
+use cql_values::reading_undoes_printing;
+use cs_base::{Bytes, Items, Text};
+use fault_script::{GetRequest, PutRequest, scripts_have_their_schema};
+use prepared_statement::{Prepared, outline};
+use schema_book::Schema;
+use statement_values::{Param, Params};
 use std::alloc::{AllocError, Global};
+
+/// The statements of the lines `put` and `get`.
+#[derive(Drop)]
+pub struct LineStatements {
+    pub put: Prepared,
+    pub get: Prepared,
+}
+
+/// The schema of each script has the table.
+pub fn scripts_have_kv()
+    ensures { ScriptsHaveKv }
+{
+    scripts_have_their_schema();
+}
+
+/// A text's constant stands for its bytes.
+pub fn text_is_read(text: &str)
+    ensures { stands_for types.Text (text_term text.now) ≡ Own (Given text.now) }
+{
+    reading_undoes_printing();
+    // which are UTF-8
+    text.as_bytes();
+}
+
+/// A number's constant stands for its bytes.
+fn number_is_read(number: i64)
+    ensures { stands_for types.Bigint (number_term number) ≡ Own (Given (to_be_bytes w64 (cast_unsigned w64 number))) }
+{
+    reading_undoes_printing();
+}
+
+/// So does that of the timestamp of a line `put`.
+pub fn timestamp_is_read(put: &PutRequest)
+    ensures { stands_for types.Bigint (number_term put.now.timestamp) ≡ Own (Given (to_be_bytes w64 (cast_unsigned w64 put.now.timestamp))) }
+{
+    number_is_read(put.timestamp);
+}
 
 fn kv_table(alloc: Global) -> Result<TableName, AllocError>
     ensures { IfOk result (λ table. table ≡ kv_table_of) }
@@ -21,50 +68,32 @@ fn kv_table(alloc: Global) -> Result<TableName, AllocError>
     })
 }
 
-fn text_term(alloc: Global, text: &Text) -> Result<Term, AllocError>
-    ensures { IfOk result (λ term. term ≡ text_term_of text.now) }
-{
-    Ok(Term::Constant(Literal {
-        kind: LiteralKind::Str,
-        text: print_literal(alloc, &CqlValue::Text(text.copy(alloc)?))?,
-    }))
-}
-
-fn number_term(alloc: Global, number: i64) -> Result<Term, AllocError>
-    ensures { IfOk result (λ term. term ≡ number_term_of number) }
-{
-    Ok(Term::Constant(Literal {
-        kind: LiteralKind::Whole,
-        text: print_literal(alloc, &CqlValue::Bigint(number))?,
-    }))
-}
-
-fn equals(alloc: Global, column: &str, text: &Text) -> Result<Relation, AllocError>
-    ensures { IfOk result (λ relation. relation ≡ equals_of column.now text.now) }
+fn marker_equals(alloc: Global, column: &str) -> Result<Relation, AllocError>
+    ensures { IfOk result (λ relation. relation ≡ marker_for column.now) }
 {
     Ok(Relation {
         column: Text::from_str(alloc, column)?,
         operator: RelationOperator::Equal,
-        term: text_term(alloc, text)?,
+        term: Term::Marker,
     })
 }
 
-/// The UPDATE of a line `put`.
-pub fn statement_of_put(alloc: Global, put: &PutRequest) -> Result<Statement, AllocError>
-    ensures { IfOk result (λ statement. statement ≡ put_statement put.now) }
+/// The UPDATE of lines `put`.
+fn marked_put(alloc: Global) -> Result<Statement, AllocError>
+    ensures { IfOk result (λ statement. statement ≡ marked_put_of) }
 {
     let mut assignments = Items::new(alloc);
     assignments.push(Assignment {
         column: Text::from_str(alloc, "v")?,
-        term: text_term(alloc, &put.value)?,
+        term: Term::Marker,
     })?;
     let mut relations = Items::new(alloc);
-    relations.push(equals(alloc, "k", &put.key)?)?;
-    relations.push(equals(alloc, "c", &put.row)?)?;
+    relations.push(marker_equals(alloc, "k")?)?;
+    relations.push(marker_equals(alloc, "c")?)?;
     Ok(Statement::Update(Update {
         table: kv_table(alloc)?,
         stamp: Some(Stamp {
-            timestamp: number_term(alloc, put.timestamp)?,
+            timestamp: Term::Marker,
         }),
         assignments,
         relations,
@@ -72,15 +101,15 @@ pub fn statement_of_put(alloc: Global, put: &PutRequest) -> Result<Statement, Al
     }))
 }
 
-/// The SELECT of a line `get`.
-pub fn statement_of_get(alloc: Global, get: &GetRequest) -> Result<Statement, AllocError>
-    ensures { IfOk result (λ statement. statement ≡ get_statement get.now) }
+/// The SELECT of lines `get`.
+fn marked_get(alloc: Global) -> Result<Statement, AllocError>
+    ensures { IfOk result (λ statement. statement ≡ marked_get_of) }
 {
     let mut columns = Items::new(alloc);
     columns.push(Text::from_str(alloc, "c")?)?;
     columns.push(Text::from_str(alloc, "v")?)?;
     let mut relations = Items::new(alloc);
-    relations.push(equals(alloc, "k", &get.key)?)?;
+    relations.push(marker_equals(alloc, "k")?)?;
     Ok(Statement::Select(Select {
         selection: Selection::Columns(columns),
         table: kv_table(alloc)?,
@@ -88,4 +117,42 @@ pub fn statement_of_get(alloc: Global, get: &GetRequest) -> Result<Statement, Al
         orders: Items::new(alloc),
         limit: None,
     }))
+}
+
+impl LineStatements {
+    pub fn prepare(alloc: Global, schema: &Schema) -> Result<LineStatements, AllocError>
+        ensures { IfOk result (ArePrepared schema.now) }
+    {
+        Ok(LineStatements {
+            put: outline(alloc, schema, None, &marked_put(alloc)?)?,
+            get: outline(alloc, schema, None, &marked_get(alloc)?)?,
+        })
+    }
+}
+
+fn given(alloc: Global, bytes: &[u8]) -> Result<Param, AllocError>
+    ensures { IfOk result (λ param. param ≡ Given bytes.now) }
+{
+    Ok(Param::Given(Bytes::from_slice(alloc, bytes)?))
+}
+
+/// The values of a line `put`, in the order of its statement's markers.
+pub fn put_values(alloc: Global, put: &PutRequest) -> Result<Params, AllocError>
+    ensures { IfOk result (λ values. values ≡ put_values_of put.now) }
+{
+    let mut values = Items::new(alloc);
+    values.push(given(alloc, &put.timestamp.to_be_bytes())?)?;
+    values.push(given(alloc, put.value.as_str().as_bytes())?)?;
+    values.push(given(alloc, put.key.as_str().as_bytes())?)?;
+    values.push(given(alloc, put.row.as_str().as_bytes())?)?;
+    Ok(Params::ByPlace(values))
+}
+
+/// The value of a line `get`.
+pub fn get_values(alloc: Global, get: &GetRequest) -> Result<Params, AllocError>
+    ensures { IfOk result (λ values. values ≡ get_values_of get.now) }
+{
+    let mut values = Items::new(alloc);
+    values.push(given(alloc, get.key.as_str().as_bytes())?)?;
+    Ok(Params::ByPlace(values))
 }

@@ -14,13 +14,13 @@ use Rattle.peer_messages.specs.declared.outcome.Outbound.{Outbound}
 use Rattle.peer_messages.specs.declared.setting.Setting.{Setting}
 use Rattle.node_steps.specs.State.{NodeState}
 use Rattle.node_steps.specs.Effects.{Effects}
-use Rattle.node_steps.specs.Acts.{Act, Rises, Hears, Asks, Marks, Incoming, Deed, Does, Chain, own_sends}
+use Rattle.node_steps.specs.Acts.{Act, Rises, Hears, Asks, Marks, DeadlineComes, HintExpires, Incoming, Deed, Does, Chain, own_sends}
 use Rattle.node_steps.specs.Acts.Chain.{begun, own, matter}
 use Rattle.node_steps.specs.Steps.{entries_of}
 use Rattle.cluster_runs.specs.Trace.{Scene, WasMade, MayTake, AreTold, entered, loser, Trace, moved}
 use Rattle.cs_base.proofs.Slots.{set_get, set_same, set_set}
-use Rattle.cs_base.proofs.Members.{reverse_push, contains_flat, contains_from_flat, contains_nil, contains_cases, contains_here, contains_there, contains_one}
-use Rattle.cluster_runs.proofs.Times.{timely}
+use Rattle.cs_base.proofs.Members.{from_reverse, reverse_push, contains_flat, contains_from_flat, contains_nil, contains_cases, contains_here, contains_there, contains_one}
+use Rattle.cluster_runs.proofs.Times.{timely, IsSteady, does_at_once}
 use Rattle.cluster_runs.proofs.Submissions.{SubmitNothing, Submits, rises_submits, hears_submits, matter_submits}
 
 -- the scene after these moves of node k, which is now at s'
@@ -88,6 +88,8 @@ IsPending past k (Rises time) = ⊥
 IsPending past k (Hears m) = WasMade past k m
 IsPending past k (Asks ask) = ⊥
 IsPending past k (Marks peer up) = ⊥
+IsPending past k (DeadlineComes id) = ⊥
+IsPending past k (HintExpires peer number) = ⊥
 
 abbrev ArePending : List Deed → ℕ → List Act → Type 0
 ArePending past k acts = (a : Act) → Contains acts a → IsPending past k a
@@ -100,6 +102,8 @@ pending_more past d k (Rises time) h = h
 pending_more past d k (Hears m) h = made_more past d k m h
 pending_more past d k (Asks ask) h = h
 pending_more past d k (Marks peer up) h = h
+pending_more past d k (DeadlineComes id) h = h
+pending_more past d k (HintExpires peer number) h = h
 
 -- what node me sends to itself, by a move of its own
 own_pending : (past : List Deed) (d : Deed) (me : ℕ) (xs : List Outbound) → d.node ≡ me → ((x : Outbound) → Contains xs x → Contains d.effects.sends x) → ArePending (d ∷ past) me (own_sends me xs)
@@ -127,24 +131,33 @@ none_entered : (lost : Bool) (es : List Entry) → es ≡ reverse (entered lost 
 none_entered true es = refl
 none_entered false es = refl
 
--- how far a step is: nothing was done, the time has risen, or the matter was taken
-pub data Stage (t : ℕ) (ms : List Act) (s : NodeState) : List Deed → NodeState → List Act → List Act → Type 0 where
-  at_start : Stage t ms s [] s [] (Rises t ∷ ms)
-  risen : (d : Deed) (s' : NodeState) → d.act ≡ Rises t → s'.risen ≡ t → Stage t ms s (d ∷ []) s' [] ms
-  taken : (deeds : List Deed) (s' : NodeState) (pending : List Act) → Stage t ms s deeds s' pending []
+-- the matters of a step: what is due, and the event's own, which is something that another node made, a mark, or a request,
+-- and then the last
+abbrev pub AreMatters : List Deed → ℕ → List Act → Type 0
+AreMatters past k [] = Unit {0}
+AreMatters past k (Rises time ∷ ms) = ⊥
+AreMatters past k (Hears m ∷ ms) = WasMade past k m × AreMatters past k ms
+AreMatters past k (Asks ask ∷ ms) = ms ≡ []
+AreMatters past k (Marks peer up ∷ ms) = AreMatters past k ms
+AreMatters past k (DeadlineComes id ∷ ms) = AreMatters past k ms
+AreMatters past k (HintExpires peer number ∷ ms) = AreMatters past k ms
 
--- the event's matter: nothing, something that another node made, or a request
-abbrev pub IsMatter : List Deed → ℕ → List Act → Type 0
-IsMatter past k [] = Unit {0}
-IsMatter past k (Rises time ∷ ms) = ⊥
-IsMatter past k (Hears m ∷ ms) = WasMade past k m × (ms ≡ [])
-IsMatter past k (Asks ask ∷ ms) = ms ≡ []
-IsMatter past k (Marks peer up ∷ ms) = ms ≡ []
+-- a step whose time has risen: of the matters these are left, and where a request is among them none was taken
+pub record Going (past : List Deed) (k t : ℕ) (ms : List Act) (deeds : List Deed) (s' : NodeState) (left : List Act) : Type 0 where
+  pub risen : s'.risen ≡ t
+  pub matters : AreMatters past k left
+  pub within : (id : ReqId) (m : Mutation) → Submits k t left id m → Submits k t ms id m
+  pub fresh : (ask : Ask) → Contains left (Asks ask) → (d : Deed) → Contains deeds d → (b : Ask) → d.act ≡ Asks b → ⊥
+
+-- how far a step is: nothing was done, or the time has risen
+pub data Stage (past : List Deed) (k t : ℕ) (ms : List Act) (s : NodeState) : List Deed → NodeState → List Act → List Act → Type 0 where
+  at_start : Stage past k t ms s [] s [] (Rises t ∷ ms)
+  going : (deeds : List Deed) (s' : NodeState) (pending left : List Act) → Going past k t ms deeds s' left → Stage past k t ms s deeds s' pending left
 
 pub record Sofar (c : Setting) (w : Scene) (k : ℕ) (lost : Bool) (t : ℕ) (ms : List Act) (s : NodeState) (deeds : List Deed) (s' : NodeState) (pending left : List Act) : Type 0 where
   pub trace : Trace c (after w k lost deeds s')
   pub pending_made : ArePending (reverse deeds ++ w.past) k pending
-  pub stage : Stage t ms s deeds s' pending left
+  pub stage : Stage w.past k t ms s deeds s' pending left
   pub submitted : SubmitOnly k t ms deeds
 
 moved_on : (c : Setting) (w : Scene) (k : ℕ) (lost : Bool) (s mid s' : NodeState) (deeds : List Deed) (a : Act) (o : Effects) → w.losing ≡ loser lost k → slice_get w.nodes k ≡ Some s → Trace c (after w k lost deeds mid)
@@ -178,6 +191,8 @@ may_hear past k s (Rises time) h = tt
 may_hear past k s (Hears m) h = h
 may_hear past k s (Asks ask) h = absurd h
 may_hear past k s (Marks peer up) h = tt
+may_hear past k s (DeadlineComes id) h = tt
+may_hear past k s (HintExpires peer number) h = tt
 
 -- what a node hears of its own submits nothing
 pending_submits : (c : Setting) (past : List Deed) (k : ℕ) (s : NodeState) (a : Act) (o : Effects) (s' : NodeState) → IsPending past k a → Does c k s a o s' → SubmitNothing o.entries
@@ -185,55 +200,83 @@ pending_submits c past k s (Rises time) o s' h does = absurd h
 pending_submits c past k s (Hears m) o s' h does = hears_submits c k m s o s' does
 pending_submits c past k s (Asks ask) o s' h does = absurd h
 pending_submits c past k s (Marks peer up) o s' h does = absurd h
+pending_submits c past k s (DeadlineComes id) o s' h does = absurd h
+pending_submits c past k s (HintExpires peer number) o s' h does = absurd h
 
 nil_cons : {X : Type 0} (x : X) (xs : List X) → [] ≡ x ∷ xs → ⊥
 nil_cons x xs e = cc
 
-stage_own : (t : ℕ) (ms : List Act) (s : NodeState) (deeds : List Deed) (s' : NodeState) (a : Act) (p pending left : List Act) → Stage t ms s deeds s' p left → p ≡ a ∷ pending → left ≡ []
-stage_own t ms s _ _ a _ pending _ at_start e = absurd (nil_cons a pending e)
-stage_own t ms s _ _ a _ pending _ (risen d s' act time) e = absurd (nil_cons a pending e)
-stage_own t ms s _ _ a _ pending _ (taken deeds s' p) e = refl
-
--- where a matter is taken, what it is
-data Taking (w : Scene) (k t : ℕ) (ms : List Act) (s : NodeState) : List Deed → NodeState → Act → List Act → Type 0 where
-  rising : Taking w k t ms s [] s (Rises t) ms
-  its_own : (d : Deed) (mid : NodeState) (a : Act) → d.act ≡ Rises t → mid.risen ≡ t → IsMatter w.past k (a ∷ []) → ms ≡ a ∷ [] → Taking w k t ms s (d ∷ []) mid a []
-
 heads : (a b : Act) (xs ys : List Act) → a ∷ xs ≡ b ∷ ys → (a ≡ b) × (xs ≡ ys)
 heads a b xs ys e = (cc, cc)
-
-one_matter : (w : Scene) (k : ℕ) (a : Act) (left : List Act) → IsMatter w.past k (a ∷ left) → (left ≡ []) × IsMatter w.past k (a ∷ [])
-one_matter w k (Rises time) left h = absurd h
-one_matter w k (Hears m) left h = (h.1, (h.0, refl))
-one_matter w k (Asks ask) left h = (h, refl)
-one_matter w k (Marks peer up) left h = (h, refl)
-
-stage_matter : (w : Scene) (k t : ℕ) (ms : List Act) (s : NodeState) (deeds : List Deed) (mid : NodeState) (a : Act) (p left l : List Act) → IsMatter w.past k ms → Stage t ms s deeds mid p l → l ≡ a ∷ left → Taking w k t ms s deeds mid a left
-stage_matter w k t ms s _ _ a _ left _ whole at_start e =
-    let h = heads (Rises t) a ms left e in
-    subst (λ (b : Act). Taking w k t ms s [] s b left) h.0 (subst (λ (xs : List Act). Taking w k t ms s [] s (Rises t) xs) h.1 rising)
-stage_matter w k t ms s _ _ a _ left _ whole (risen d mid act time) e =
-    let one = one_matter w k a left (subst (λ (xs : List Act). IsMatter w.past k xs) e whole) in
-    subst (λ (xs : List Act). Taking w k t ms s (d ∷ []) mid a xs) (sym one.0) (its_own d mid a act time one.1 (e ∙ ap (λ (xs : List Act). a ∷ xs) one.0))
-stage_matter w k t ms s _ _ a _ left _ whole (taken deeds mid p) e = absurd (nil_cons a left e)
 
 not_ask : (t : ℕ) (ask : Ask) → Rises t ≡ Asks ask → ⊥
 not_ask t ask e = cc
 
-may_take_own : (c : Setting) (w : Scene) (k t : ℕ) (s : NodeState) (d : Deed) (mid : NodeState) (a : Act) → Trace c w → slice_get w.nodes k ≡ Some s → s.time < t → d.act ≡ Rises t → mid.risen ≡ t → IsMatter w.past k (a ∷ [])
-    → MayTake (d ∷ w.past) k mid a
-may_take_own c w k t s d mid (Rises time) trace at later act is h = tt
-may_take_own c w k t s d mid (Hears m) trace at later act is h = made_more w.past d k m h.0
-may_take_own c w k t s d mid (Asks ask) trace at later act is h = λ x there asked.
-    elim (contains_cases d w.past x there) [
-      | inl here ↦ not_ask t asked.2.0 (sym act ∙ ap (λ (y : Deed). y.act) here ∙ asked.2.1)
+-- ---- one matter more
+
+steady_matter : (past : List Deed) (k : ℕ) (a : Act) (left : List Act) → AreMatters past k (a ∷ left) → IsSteady a
+steady_matter past k (Rises time) left h = absurd h
+steady_matter past k (Hears m) left h = tt
+steady_matter past k (Asks ask) left h = tt
+steady_matter past k (Marks peer up) left h = tt
+steady_matter past k (DeadlineComes id) left h = tt
+steady_matter past k (HintExpires peer number) left h = tt
+
+steady_pending : (past : List Deed) (k : ℕ) (a : Act) → IsPending past k a → IsSteady a
+steady_pending past k (Rises time) h = absurd h
+steady_pending past k (Hears m) h = tt
+steady_pending past k (Asks ask) h = absurd h
+steady_pending past k (Marks peer up) h = absurd h
+steady_pending past k (DeadlineComes id) h = absurd h
+steady_pending past k (HintExpires peer number) h = absurd h
+
+pending_asks_not : (past : List Deed) (k : ℕ) (a : Act) (b : Ask) → IsPending past k a → a ≡ Asks b → ⊥
+pending_asks_not past k a b h is = subst (λ (x : Act). IsPending past k x) is h
+
+left_matters : (past : List Deed) (k : ℕ) (a : Act) (left : List Act) → AreMatters past k (a ∷ left) → AreMatters past k left
+left_matters past k (Rises time) left h = absurd h
+left_matters past k (Hears m) left h = h.1
+left_matters past k (Asks ask) left h = subst (λ (xs : List Act). AreMatters past k xs) (sym h) tt
+left_matters past k (Marks peer up) left h = h
+left_matters past k (DeadlineComes id) left h = h
+left_matters past k (HintExpires peer number) left h = h
+
+left_submits : (past : List Deed) (k t : ℕ) (a : Act) (left : List Act) → AreMatters past k (a ∷ left) → (id : ReqId) (m : Mutation) → Submits k t left id m → Submits k t (a ∷ left) id m
+left_submits past k t (Rises time) left h id m x = absurd h
+left_submits past k t (Hears n) left h id m x = x
+left_submits past k t (Asks ask) left h id m x = absurd (subst (λ (xs : List Act). Submits k t xs id m) h x)
+left_submits past k t (Marks peer up) left h id m x = x
+left_submits past k t (DeadlineComes r) left h id m x = x
+left_submits past k t (HintExpires peer number) left h id m x = x
+
+this_submits : (past : List Deed) (k t : ℕ) (a : Act) (left : List Act) → AreMatters past k (a ∷ left) → (id : ReqId) (m : Mutation) → Submits k t (a ∷ []) id m → Submits k t (a ∷ left) id m
+this_submits past k t (Rises time) left h id m x = absurd h
+this_submits past k t (Hears n) left h id m x = absurd x
+this_submits past k t (Asks ask) left h id m x = x
+this_submits past k t (Marks peer up) left h id m x = absurd x
+this_submits past k t (DeadlineComes r) left h id m x = absurd x
+this_submits past k t (HintExpires peer number) left h id m x = absurd x
+
+-- behind a request no matter is left
+last_ask : (past : List Deed) (k : ℕ) (a : Act) (left : List Act) (b : Ask) → AreMatters past k (a ∷ left) → a ≡ Asks b → left ≡ []
+last_ask past k a left b h is = subst (λ (x : Act). AreMatters past k (x ∷ left)) is h
+
+may_take_own : (c : Setting) (w : Scene) (k t : ℕ) (ms : List Act) (s : NodeState) (deeds : List Deed) (mid : NodeState) (a : Act) (left : List Act) → Trace c w → slice_get w.nodes k ≡ Some s → s.time < t → Going w.past k t ms deeds mid (a ∷ left)
+    → AreMatters w.past k (a ∷ left) → ((ask : Ask) → a ≡ Asks ask → Contains (a ∷ left) (Asks ask)) → MayTake (reverse deeds ++ w.past) k mid a
+may_take_own c w k t ms s deeds mid (Rises time) left trace at later g h here = tt
+may_take_own c w k t ms s deeds mid (Hears m) left trace at later g h here = record { deed = h.0.deed; there = Contains-append_right (reverse deeds) w.past h.0.deed h.0.there; node = h.0.node; made = h.0.made }
+may_take_own c w k t ms s deeds mid (Asks ask) left trace at later g h here = λ x there asked.
+    elim (Contains-append_cases (reverse deeds) w.past x there) [
+      | inl new ↦ g.fresh ask (here ask refl) x (from_reverse deeds x new) asked.2.0 asked.2.1
       | inr old ↦
           let before = (timely c w trace).passed x old s (subst (λ (j : ℕ). slice_get w.nodes j ≡ Some s) (sym asked.0) at) in
           let below = ((timely c w trace).risen k s at).risen in
-          let same : x.before.risen ≡ t = asked.1 ∙ is in
+          let same : x.before.risen ≡ t = asked.1 ∙ g.risen in
           absurd (omega (arith, before, below, same, later))
     ]
-may_take_own c w k t s d mid (Marks peer up) trace at later act is h = tt
+may_take_own c w k t ms s deeds mid (Marks peer up) left trace at later g h here = tt
+may_take_own c w k t ms s deeds mid (DeadlineComes id) left trace at later g h here = tt
+may_take_own c w k t ms s deeds mid (HintExpires peer number) left trace at later g h here = tt
 
 -- what a chain of moves starts from
 pub record Starts (c : Setting) (w : Scene) (k : ℕ) (lost : Bool) (t : ℕ) (ms : List Act) (s : NodeState) : Type 0 where
@@ -241,28 +284,74 @@ pub record Starts (c : Setting) (w : Scene) (k : ℕ) (lost : Bool) (t : ℕ) (m
   pub losing : w.losing ≡ loser lost k
   pub at : slice_get w.nodes k ≡ Some s
   pub later : s.time < t
-  pub matter : IsMatter w.past k ms
+  pub matter : AreMatters w.past k ms
 
-sofar_matter : (c : Setting) (w : Scene) (k : ℕ) (lost : Bool) (t : ℕ) (ms : List Act) (s : NodeState) (deeds : List Deed) (mid s' : NodeState) (a : Act) (left : List Act) (o : Effects) → Starts c w k lost t ms s
-    → Sofar c w k lost t ms s deeds mid [] (a ∷ left) → Taking w k t ms s deeds mid a left → Does c k mid a o s' → AreTold lost w.chronicle o.entries
-    → Sofar c w k lost t ms s (deeds ++ record { node = k; act = a; before = mid; after = s'; effects = o } ∷ []) s' (own_sends k o.sends) left
-sofar_matter c w k lost t ms s _ _ s' _ _ o start prev rising does told =
+-- the first move of a step: its time rises
+sofar_rises : (c : Setting) (w : Scene) (k : ℕ) (lost : Bool) (t : ℕ) (ms : List Act) (s s' : NodeState) (o : Effects) → Starts c w k lost t ms s
+    → Sofar c w k lost t ms s [] s [] (Rises t ∷ ms) → Does c k s (Rises t) o s' → AreTold lost w.chronicle o.entries
+    → Sofar c w k lost t ms s (record { node = k; act = Rises t; before = s; after = s'; effects = o } ∷ []) s' (own_sends k o.sends) ms
+sofar_rises c w k lost t ms s s' o start prev does told =
     let d : Deed = record { node = k; act = Rises t; before = s; after = s'; effects = o } in
-    let none : own_sends k o.sends ≡ [] = ap (λ (x : Effects). own_sends k x.sends) does.1 in
     record {
       trace = moved_on c w k lost s s s' [] (Rises t) o start.losing start.at prev.trace tt does told;
       pending_made = pending_on w k [] d [] refl (λ a h. absurd (contains_nil a h));
-      stage = subst (λ (xs : List Act). Stage t ms s (d ∷ []) s' xs ms) (sym none) (risen d s' refl (ap (λ (x : NodeState). x.risen) does.2));
+      stage = going (d ∷ []) s' (own_sends k o.sends) ms (record {
+        risen = ap (λ (x : NodeState). x.risen) does.2;
+        matters = start.matter;
+        within = λ id m h. h;
+        fresh = λ ask h x there b is. not_ask t b (subst (λ (y : Deed). y.act ≡ Asks b) (sym (contains_one d x there)) is);
+      });
       submitted = only_more k t ms [] d prev.submitted (λ id m h. absurd (rises_submits c k t s o s' does id m h));
     }
-sofar_matter c w k lost t ms s _ mid s' a _ o start prev (its_own d _ _ act time whole is) does told =
-    let deed : Deed = record { node = k; act = a; before = mid; after = s'; effects = o } in
+
+-- a matter is taken
+sofar_matter : (c : Setting) (w : Scene) (k : ℕ) (lost : Bool) (t : ℕ) (ms : List Act) (s : NodeState) (deeds : List Deed) (mid s' : NodeState) (a : Act) (left : List Act) (o : Effects) → Starts c w k lost t ms s
+    → Sofar c w k lost t ms s deeds mid [] (a ∷ left) → Going w.past k t ms deeds mid (a ∷ left) → Does c k mid a o s' → AreTold lost w.chronicle o.entries
+    → Sofar c w k lost t ms s (deeds ++ record { node = k; act = a; before = mid; after = s'; effects = o } ∷ []) s' (own_sends k o.sends) left
+sofar_matter c w k lost t ms s deeds mid s' a left o start prev g does told =
+    let d : Deed = record { node = k; act = a; before = mid; after = s'; effects = o } in
     record {
-      trace = moved_on c w k lost s mid s' (d ∷ []) a o start.losing start.at prev.trace (may_take_own c w k t s d mid a start.trace start.at start.later act time whole) does told;
-      pending_made = pending_on w k (d ∷ []) deed [] refl (λ b h. absurd (contains_nil b h));
-      stage = taken (d ∷ deed ∷ []) s' (own_sends k o.sends);
-      submitted = only_more k t ms (d ∷ []) deed prev.submitted (λ id m h. subst (λ (xs : List Act). Submits k t xs id m) (sym is) (matter_submits c k t a mid o s' time does id m h));
+      trace = moved_on c w k lost s mid s' deeds a o start.losing start.at prev.trace
+          (may_take_own c w k t ms s deeds mid a left start.trace start.at start.later g g.matters (λ ask is. subst (λ (x : Act). Contains (a ∷ left) x) is (contains_here a left))) does told;
+      pending_made = pending_on w k deeds d [] refl (λ b h. absurd (contains_nil b h));
+      stage = going (deeds ++ d ∷ []) s' (own_sends k o.sends) left (record {
+        risen = (does_at_once c k mid a o s' (steady_matter w.past k a left g.matters) does).risen ∙ g.risen;
+        matters = left_matters w.past k a left g.matters;
+        within = λ id m h. g.within id m (left_submits w.past k t a left g.matters id m h);
+        fresh = λ ask h x there b is. elim (Contains-append_cases deeds (d ∷ []) x there) [
+          | inl old ↦ g.fresh ask (contains_there a left (Asks ask) h) x old b is
+          | inr new ↦ contains_nil (Asks ask) (subst (λ (xs : List Act). Contains xs (Asks ask)) (last_ask w.past k a left b g.matters (subst (λ (y : Deed). y.act ≡ Asks b) (sym (contains_one d x new)) is)) h)
+        ];
+      });
+      submitted = only_more k t ms deeds d prev.submitted (λ id m h. g.within id m (this_submits w.past k t a left g.matters id m (matter_submits c k t a mid o s' g.risen does id m h)));
     }
+
+-- what a node hears of its own is taken
+stage_own : (c : Setting) (past newer : List Deed) (k t : ℕ) (ms : List Act) (s : NodeState) (deeds : List Deed) (mid s' : NodeState) (a : Act) (p pending left : List Act) (o : Effects)
+    → Stage past k t ms s deeds mid p left → p ≡ a ∷ pending → IsPending newer k a → Does c k mid a o s' → Going past k t ms (deeds ++ record { node = k; act = a; before = mid; after = s'; effects = o } ∷ []) s' left
+stage_own c past newer k t ms s _ _ s' a _ pending _ o at_start e mine does = absurd (nil_cons a pending e)
+stage_own c past newer k t ms s _ _ s' a _ pending _ o (going deeds mid p left g) e mine does = record {
+  risen = (does_at_once c k mid a o s' (steady_pending newer k a mine) does).risen ∙ g.risen;
+  matters = g.matters;
+  within = g.within;
+  fresh = λ ask h x there b is. elim (Contains-append_cases deeds _ x there) [
+    | inl old ↦ g.fresh ask h x old b is
+    | inr new ↦ pending_asks_not newer k a b mine (subst (λ (y : Deed). y.act ≡ Asks b) (sym (contains_one _ x new)) is)
+  ];
+}
+
+sofar_next : (c : Setting) (w : Scene) (k : ℕ) (lost : Bool) (t : ℕ) (ms : List Act) (s : NodeState) (deeds : List Deed) (mid s' : NodeState) (a : Act) (p left l : List Act) (o : Effects) → Starts c w k lost t ms s
+    → Sofar c w k lost t ms s deeds mid p l → Stage w.past k t ms s deeds mid p l → p ≡ [] → l ≡ a ∷ left → Does c k mid a o s' → AreTold lost w.chronicle o.entries
+    → Sofar c w k lost t ms s (deeds ++ record { node = k; act = a; before = mid; after = s'; effects = o } ∷ []) s' (own_sends k o.sends) left
+sofar_next c w k lost t ms s _ _ s' a _ left _ o start prev at_start none e does told =
+    let h = heads (Rises t) a ms left e in
+    subst (λ (b : Act). Sofar c w k lost t ms s (record { node = k; act = b; before = s; after = s'; effects = o } ∷ []) s' (own_sends k o.sends) left) h.0
+    (subst (λ (xs : List Act). Sofar c w k lost t ms s (record { node = k; act = Rises t; before = s; after = s'; effects = o } ∷ []) s' (own_sends k o.sends) xs) h.1
+    (sofar_rises c w k lost t ms s s' o start prev (subst (λ (b : Act). Does c k s b o s') (sym h.0) does) told))
+sofar_next c w k lost t ms s _ _ s' a _ left _ o start prev (going deeds mid p l g) none e does told =
+    sofar_matter c w k lost t ms s deeds mid s' a left o start
+    (subst (λ (xs : List Act). Sofar c w k lost t ms s deeds mid xs (a ∷ left)) none (subst (λ (xs : List Act). Sofar c w k lost t ms s deeds mid p xs) e prev))
+    (subst (λ (xs : List Act). Going w.past k t ms deeds mid xs) e g) does told
 
 pub sofar : (c : Setting) (w : Scene) (k : ℕ) (lost : Bool) (t : ℕ) (ms : List Act) (s : NodeState) → Starts c w k lost t ms s
     → (deeds : List Deed) (s' : NodeState) (pending left : List Act) → Chain c k s (Rises t ∷ ms) deeds s' pending left → AreTold lost w.chronicle (flat_map entries_of deeds) → Sofar c w k lost t ms s deeds s' pending left
@@ -279,10 +368,10 @@ sofar c w k lost t ms s start _ _ _ _ (own deeds mid s' a pending left o chain d
     record {
       trace = moved_on c w k lost s mid s' deeds a o start.losing start.at prev.trace (may_hear (reverse deeds ++ w.past) k mid a mine) does (told_last lost w.chronicle deeds d told);
       pending_made = pending_on w k deeds d pending refl (λ b h. prev.pending_made b (contains_there a pending b h));
-      stage = subst (λ (l : List Act). Stage t ms s (deeds ++ d ∷ []) s' (pending ++ own_sends k o.sends) l) (sym (stage_own t ms s deeds mid a (a ∷ pending) pending left prev.stage refl)) (taken (deeds ++ d ∷ []) s' (pending ++ own_sends k o.sends));
+      stage = going (deeds ++ d ∷ []) s' (pending ++ own_sends k o.sends) left (stage_own c w.past (reverse deeds ++ w.past) k t ms s deeds mid s' a (a ∷ pending) pending left o prev.stage refl mine does);
       submitted = only_more k t ms deeds d prev.submitted (λ id m h. absurd (pending_submits c (reverse deeds ++ w.past) k mid a o s' mine does id m h));
     }
 sofar c w k lost t ms s start _ _ _ _ (matter deeds mid s' a left o chain does) told =
     let d : Deed = record { node = k; act = a; before = mid; after = s'; effects = o } in
     let prev = sofar c w k lost t ms s start deeds mid [] (a ∷ left) chain (told_before lost w.chronicle deeds d told) in
-    sofar_matter c w k lost t ms s deeds mid s' a left o start prev (stage_matter w k t ms s deeds mid a [] left (a ∷ left) start.matter prev.stage refl) does (told_last lost w.chronicle deeds d told)
+    sofar_next c w k lost t ms s deeds mid s' a [] left (a ∷ left) o start prev prev.stage refl refl does (told_last lost w.chronicle deeds d told)

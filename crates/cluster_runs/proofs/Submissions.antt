@@ -13,10 +13,11 @@ use Rattle.changes.proofs.Ranks.{request_made}
 use Rattle.peer_messages.specs.declared.event.Plan.{Plan}
 use Rattle.peer_messages.specs.declared.event.Plan.TheVariants as plan
 use Rattle.peer_messages.specs.declared.message.Body.{Body}
-use Rattle.peer_messages.specs.declared.message.Body.TheVariants.{Write, WriteAck, Read, ReadReply}
+use Rattle.peer_messages.specs.declared.message.Body.TheVariants.{Write, WriteAck, Read, ReadReply, Hint, HintAck}
 use Rattle.peer_messages.specs.declared.chronicle.Entry.{Entry}
 use Rattle.peer_messages.specs.declared.chronicle.Entry.TheVariants.{Asked, Submitted, Acked, Refused, Used, Began, Rows, Marks as Marked, Time, Turned, Tables, Stopped}
 use Rattle.peer_messages.specs.declared.chronicle.Refusal.{Refusal}
+use Rattle.peer_messages.specs.declared.chronicle.Refusal.TheVariants.{WriteTimeout}
 use Rattle.peer_messages.specs.declared.outcome.Move.{Move}
 use Rattle.peer_messages.specs.declared.setting.Setting.{Setting}
 use Rattle.peer_messages.specs.Moves.{quiet}
@@ -24,9 +25,9 @@ use Rattle.node_steps.specs.State.{NodeState, OpenWrite, OpenRead}
 use Rattle.node_steps.specs.Effects.{Effects, nothing, open_at, Takes}
 use Rattle.node_steps.specs.Replicas.{Asker}
 use Rattle.node_steps.specs.Requests.{refusal_of, Begins, BeginsOrRefuses}
-use Rattle.node_steps.specs.Writes.{is_enough, heard_write, ack_told, ack_turn, HearsAck}
+use Rattle.node_steps.specs.Writes.{acks_of, write_needs, is_enough, heard_write, ack_told, ack_turn, HearsAck}
 use Rattle.node_steps.specs.Reads.{HearsReply, TellsRows, MergesReply, is_stray, heard_by, replies_of, read_needs}
-use Rattle.node_steps.specs.Acts.{Act, Rises, Hears, Asks, Marks, Incoming, Does, HearsBody, request_at, is_old, asker_of}
+use Rattle.node_steps.specs.Acts.{Act, Rises, Hears, Asks, Marks, DeadlineComes, HintExpires, Incoming, Does, HearsBody, Ends, EndsRead, request_at, is_old, asker_of}
 use Rattle.cluster_runs.specs.Chronicle.{submission_of}
 use Rattle.cluster_runs.specs.Trace.{IsTold}
 
@@ -205,18 +206,20 @@ reply_takes c id from content xs xs' (Some r) turn (r', step, same) = reply_merg
 none_in : (o p : Effects) → o ≡ p → SubmitNothing p.entries → SubmitNothing o.entries
 none_in o p is none = subst (λ (x : Effects). SubmitNothing x.entries) (sym is) none
 
-body_submits : (c : Setting) (a : Asker) (b : Body) (s : NodeState) (o : Effects) (s' : NodeState) → HearsBody c a b s o s' → SubmitNothing o.entries
-body_submits c a (Write m) s o s' h = none_in o _ h.2 none_in_nil
-body_submits c a WriteAck s o s' (turn, moves, is, same) = none_in o _ is (ack_takes c a.request a.from s.writes s'.writes (open_at s.writes a.request) turn moves)
-body_submits c a (Read q) s o s' h = none_in o _ h.2 none_in_nil
-body_submits c a (ReadReply content) s o s' (turn, moves, is, same) = none_in o _ is (reply_takes c a.request a.from content s.reads s'.reads (open_at s.reads a.request) turn moves)
+body_submits : (c : Setting) (me : ℕ) (a : Asker) (b : Body) (s : NodeState) (o : Effects) (s' : NodeState) → HearsBody c me a b s o s' → SubmitNothing o.entries
+body_submits c me a (Write m) s o s' h = none_in o _ h.2 none_in_nil
+body_submits c me a WriteAck s o s' (turn, moves, is, same) = none_in o _ is (ack_takes c a.request a.from s.writes s'.writes (open_at s.writes a.request) turn moves)
+body_submits c me a (Read q) s o s' h = none_in o _ h.2 none_in_nil
+body_submits c me a (ReadReply content) s o s' (turn, moves, is, same) = none_in o _ is (reply_takes c a.request a.from content s.reads s'.reads (open_at s.reads a.request) turn moves)
+body_submits c me a (Hint number m) s o s' h = none_in o _ h.2 none_in_nil
+body_submits c me a (HintAck number) s o s' h = none_in o _ h.0 none_in_nil
 
-heard_submits : (c : Setting) (m : Incoming) (old : Bool) (s : NodeState) (o : Effects) (s' : NodeState) → MatchBool old ((o ≡ nothing) × (s' ≡ s)) (HearsBody c (asker_of m) m.body s o s') → SubmitNothing o.entries
-heard_submits c m true s o s' h = none_in o _ h.0 none_in_nil
-heard_submits c m false s o s' h = body_submits c (asker_of m) m.body s o s' h
+heard_submits : (c : Setting) (me : ℕ) (m : Incoming) (old : Bool) (s : NodeState) (o : Effects) (s' : NodeState) → MatchBool old ((o ≡ nothing) × (s' ≡ s)) (HearsBody c me (asker_of m) m.body s o s') → SubmitNothing o.entries
+heard_submits c me m true s o s' h = none_in o _ h.0 none_in_nil
+heard_submits c me m false s o s' h = body_submits c me (asker_of m) m.body s o s' h
 
 pub hears_submits : (c : Setting) (k : ℕ) (m : Incoming) (s : NodeState) (o : Effects) (s' : NodeState) → Does c k s (Hears m) o s' → SubmitNothing o.entries
-hears_submits c k m s o s' h = heard_submits c m (is_old c s.risen m.born) s o s' h
+hears_submits c k m s o s' h = heard_submits c k m (is_old c s.risen m.born) s o s' h
 
 pub rises_submits : (c : Setting) (k t : ℕ) (s : NodeState) (o : Effects) (s' : NodeState) → Does c k s (Rises t) o s' → SubmitNothing o.entries
 rises_submits c k t s o s' h = none_in o _ h.1 none_in_nil
@@ -232,8 +235,10 @@ abbrev pub Submits : ℕ → ℕ → List Act → ReqId → Mutation → Type 0
 Submits k t [] id m = ⊥
 Submits k t (Asks ask ∷ ms) id m = PlanSubmits (request_at k t) ask.plan id m
 Submits k t (Rises time ∷ ms) id m = ⊥
-Submits k t (Hears x ∷ ms) id m = ⊥
-Submits k t (Marks peer up ∷ ms) id m = ⊥
+Submits k t (Hears x ∷ ms) id m = Submits k t ms id m
+Submits k t (Marks peer up ∷ ms) id m = Submits k t ms id m
+Submits k t (DeadlineComes r ∷ ms) id m = Submits k t ms id m
+Submits k t (HintExpires peer number ∷ ms) id m = Submits k t ms id m
 
 begins_submits : (c : Setting) (at : ReqId) (p : Plan) (l : Level) (s : NodeState) (o : Effects) (s' : NodeState) → Begins c at p l s o s' → (id : ReqId) (m : Mutation) → Contains o.entries (Submitted id m) → PlanSubmits at p id m
 begins_submits c at (plan.Write d) l s o s' (is, same) id m h =
@@ -256,13 +261,27 @@ plan_submits c at p l (Some r) s o s' (is, same) id m h =
     let e : Refused at r ≡ Submitted id m = contains_one _ _ (subst (λ (x : Effects). Contains x.entries (Submitted id m)) is h) in
     absurd (refused_not at r id m e)
 
+ends_read_submits : (c : Setting) (id : ReqId) (r : Option OpenRead) (s : NodeState) (o : Effects) (s' : NodeState) → EndsRead c id r s o s' → SubmitNothing o.entries
+ends_read_submits c id None s o s' h = none_in o _ h.0 none_in_nil
+ends_read_submits c id (Some r) s o s' h = none_in o _ h.0 (λ i m there. absurd (refused_not id _ i m (contains_one _ _ there)))
+
+write_end_submits : (b : Bool) (id : ReqId) (r : Refusal) → SubmitNothing (if b then [] else Refused id r ∷ [])
+write_end_submits true id r = none_in_nil
+write_end_submits false id r = λ i m there. absurd (refused_not id r i m (contains_one _ _ there))
+
+ends_submits : (c : Setting) (id : ReqId) (w : Option OpenWrite) (s : NodeState) (o : Effects) (s' : NodeState) → Ends c id w s o s' → SubmitNothing o.entries
+ends_submits c id None s o s' h = ends_read_submits c id (open_at s.reads id) s o s' h
+ends_submits c id (Some w) s o s' h = none_in o _ h.0 (write_end_submits w.answered id (WriteTimeout (acks_of c w) (write_needs c w)))
+
 -- of the event's matter, what it submits
 pub matter_submits : (c : Setting) (k t : ℕ) (a : Act) (s : NodeState) (o : Effects) (s' : NodeState) → s.risen ≡ t → Does c k s a o s' → (id : ReqId) (m : Mutation) → Contains o.entries (Submitted id m) → Submits k t (a ∷ []) id m
 matter_submits c k t (Asks ask) s o s' is d id m h =
     subst (λ (n : ℕ). PlanSubmits (request_at k n) ask.plan id m) is (plan_submits c (request_at k s.risen) ask.plan ask.level (refusal_of c s (request_at k s.risen) ask.plan ask.level) s o s' d id m h)
 matter_submits c k t (Rises time) s o s' is d id m h = rises_submits c k time s o s' d id m h
 matter_submits c k t (Hears x) s o s' is d id m h = hears_submits c k x s o s' d id m h
-matter_submits c k t (Marks peer up) s o s' is d id m h = none_in o nothing d.0 none_in_nil id m h
+matter_submits c k t (Marks peer up) s o s' is d id m h = none_in o _ d.0 none_in_nil id m h
+matter_submits c k t (DeadlineComes r) s o s' is d id m h = ends_submits c r (open_at s.writes r) s o s' d id m h
+matter_submits c k t (HintExpires peer number) s o s' is d id m h = none_in o _ d.0 none_in_nil id m h
 
 plan_once : (at : ReqId) (p : Plan) (id : ReqId) (m n : Mutation) → PlanSubmits at p id m → PlanSubmits at p id n → n ≡ m
 plan_once at (plan.Write d) id m n a b = b.1 ∙ sym a.1
@@ -274,8 +293,10 @@ pub submits_once : (k t : ℕ) (ms : List Act) (id : ReqId) (m n : Mutation) →
 submits_once k t [] id m n a b = absurd a
 submits_once k t (Asks ask ∷ ms) id m n a b = plan_once (request_at k t) ask.plan id m n a b
 submits_once k t (Rises time ∷ ms) id m n a b = absurd a
-submits_once k t (Hears x ∷ ms) id m n a b = absurd a
-submits_once k t (Marks peer up ∷ ms) id m n a b = absurd a
+submits_once k t (Hears x ∷ ms) id m n a b = submits_once k t ms id m n a b
+submits_once k t (Marks peer up ∷ ms) id m n a b = submits_once k t ms id m n a b
+submits_once k t (DeadlineComes r ∷ ms) id m n a b = submits_once k t ms id m n a b
+submits_once k t (HintExpires peer number ∷ ms) id m n a b = submits_once k t ms id m n a b
 
 plan_at : (at : ReqId) (p : Plan) (id : ReqId) (m : Mutation) → PlanSubmits at p id m → id ≡ at
 plan_at at (plan.Write d) id m h = h.0
@@ -287,8 +308,10 @@ pub submits_at : (k t : ℕ) (ms : List Act) (id : ReqId) (m : Mutation) → Sub
 submits_at k t [] id m a = absurd a
 submits_at k t (Asks ask ∷ ms) id m a = plan_at (request_at k t) ask.plan id m a
 submits_at k t (Rises time ∷ ms) id m a = absurd a
-submits_at k t (Hears x ∷ ms) id m a = absurd a
-submits_at k t (Marks peer up ∷ ms) id m a = absurd a
+submits_at k t (Hears x ∷ ms) id m a = submits_at k t ms id m a
+submits_at k t (Marks peer up ∷ ms) id m a = submits_at k t ms id m a
+submits_at k t (DeadlineComes r ∷ ms) id m a = submits_at k t ms id m a
+submits_at k t (HintExpires peer number ∷ ms) id m a = submits_at k t ms id m a
 
 pub submits_own : (k t : ℕ) (ms : List Act) (id : ReqId) (m : Mutation) → Submits k t ms id m → id.node ≡ k
 submits_own k t ms id m a = ap (λ (x : ReqId). x.node) (submits_at k t ms id m a)

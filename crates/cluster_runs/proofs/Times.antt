@@ -7,14 +7,15 @@ use Rattle.cs_base.specs.declared.level.Level.{Level}
 use Rattle.peer_messages.specs.declared.event.Plan.{Plan}
 use Rattle.peer_messages.specs.declared.event.Plan.TheVariants as plan
 use Rattle.peer_messages.specs.declared.message.Body.{Body}
-use Rattle.peer_messages.specs.declared.message.Body.TheVariants.{Write, WriteAck, Read, ReadReply}
+use Rattle.peer_messages.specs.declared.message.Body.TheVariants.{Write, WriteAck, Read, ReadReply, Hint, HintAck}
 use Rattle.peer_messages.specs.declared.chronicle.Refusal.{Refusal}
 use Rattle.peer_messages.specs.declared.setting.Setting.{Setting}
-use Rattle.node_steps.specs.State.{NodeState, loaded, fresh_node}
-use Rattle.node_steps.specs.Effects.{Effects, nothing}
+use Rattle.node_steps.specs.State.{NodeState, OpenWrite, OpenRead, loaded, fresh_node}
+use Rattle.node_steps.specs.Effects.{Effects, nothing, open_at}
+use Rattle.node_steps.specs.Hints.{with_sent, is_last, hint_done}
 use Rattle.node_steps.specs.Replicas.{Asker}
 use Rattle.node_steps.specs.Requests.{refusal_of, Begins, BeginsOrRefuses}
-use Rattle.node_steps.specs.Acts.{Act, Rises, Hears, Asks, Marks, Incoming, Deed, Does, HearsBody, ceiling_after, is_old, asker_of, request_at}
+use Rattle.node_steps.specs.Acts.{Act, Rises, Hears, Asks, Marks, DeadlineComes, HintExpires, Incoming, Deed, Does, HearsBody, Ends, EndsRead, mark_state, ceiling_after, is_old, asker_of, request_at}
 use Rattle.cluster_runs.specs.Trace.{Scene, Trace, begun, moved, wakes, forgets, free}
 use Rattle.cs_base.proofs.Slots.{get_set}
 use Rattle.cluster_runs.proofs.Lists.{all_same}
@@ -56,15 +57,36 @@ rises_later s s' time later is =
       under = λ h. subst (λ (n : ℕ). n ≤ s'.ceiling) (sym e) (subst (λ (n : ℕ). time ≤ n) (sym f) (above s.ceiling time));
     }
 
-hears_later : (c : Setting) (a : Asker) (b : Body) (s : NodeState) (o : Effects) (s' : NodeState) → HearsBody c a b s o s' → Later s s'
-hears_later c a (Write m) s o s' h = same_times s s' _ h.3 refl refl refl
-hears_later c a WriteAck s o s' h = same_times s s' _ h.3 refl refl refl
-hears_later c a (Read q) s o s' h = same_times s s' _ h.3 refl refl refl
-hears_later c a (ReadReply content) s o s' h = same_times s s' _ h.3 refl refl refl
+acked_times : (c : Setting) (b : Bool) (s : NodeState) (peer number : ℕ) → Later s (if b then with_sent c (hint_done s peer number) peer else hint_done s peer number)
+acked_times c true s peer number = same_times s _ _ refl refl refl refl
+acked_times c false s peer number = same_times s _ _ refl refl refl refl
 
-comes_later : (c : Setting) (m : Incoming) (old : Bool) (s : NodeState) (o : Effects) (s' : NodeState) → MatchBool old ((o ≡ nothing) × (s' ≡ s)) (HearsBody c (asker_of m) m.body s o s') → Later s s'
-comes_later c m true s o s' h = same_times s s' s h.1 refl refl refl
-comes_later c m false s o s' h = hears_later c (asker_of m) m.body s o s' h
+to_later : (s s' r : NodeState) → s' ≡ r → Later s r → Later s s'
+to_later s s' r is h = subst (λ (x : NodeState). Later s x) (sym is) h
+
+hears_later : (c : Setting) (me : ℕ) (a : Asker) (b : Body) (s : NodeState) (o : Effects) (s' : NodeState) → HearsBody c me a b s o s' → Later s s'
+hears_later c me a (Write m) s o s' h = same_times s s' _ h.3 refl refl refl
+hears_later c me a WriteAck s o s' h = same_times s s' _ h.3 refl refl refl
+hears_later c me a (Read q) s o s' h = same_times s s' _ h.3 refl refl refl
+hears_later c me a (ReadReply content) s o s' h = same_times s s' _ h.3 refl refl refl
+hears_later c me a (Hint number m) s o s' h = same_times s s' _ h.3 refl refl refl
+hears_later c me a (HintAck number) s o s' h = to_later s s' _ h.1 (acked_times c (is_last s a.from number) s a.from number)
+
+comes_later : (c : Setting) (me : ℕ) (m : Incoming) (old : Bool) (s : NodeState) (o : Effects) (s' : NodeState) → MatchBool old ((o ≡ nothing) × (s' ≡ s)) (HearsBody c me (asker_of m) m.body s o s') → Later s s'
+comes_later c me m true s o s' h = same_times s s' s h.1 refl refl refl
+comes_later c me m false s o s' h = hears_later c me (asker_of m) m.body s o s' h
+
+ends_read_later : (c : Setting) (id : ReqId) (r : Option OpenRead) (s : NodeState) (o : Effects) (s' : NodeState) → EndsRead c id r s o s' → Later s s'
+ends_read_later c id None s o s' h = same_times s s' _ h.1 refl refl refl
+ends_read_later c id (Some r) s o s' h = same_times s s' _ h.1 refl refl refl
+
+ends_later : (c : Setting) (id : ReqId) (w : Option OpenWrite) (s : NodeState) (o : Effects) (s' : NodeState) → Ends c id w s o s' → Later s s'
+ends_later c id None s o s' h = ends_read_later c id (open_at s.reads id) s o s' h
+ends_later c id (Some w) s o s' h = same_times s s' _ h.1 refl refl refl
+
+marks_later : (c : Setting) (s s' : NodeState) (peer : ℕ) (up : Bool) → s' ≡ mark_state c s peer up → Later s s'
+marks_later c s s' peer true is = same_times s s' _ is refl refl refl
+marks_later c s s' peer false is = same_times s s' _ is refl refl refl
 
 begins_later : (c : Setting) (id : ReqId) (p : Plan) (l : Level) (s : NodeState) (o : Effects) (s' : NodeState) → Begins c id p l s o s' → Later s s'
 begins_later c id (plan.Write d) l s o s' h = same_times s s' _ h.1 refl refl refl
@@ -77,10 +99,75 @@ asks_later c id p l None s o s' h = begins_later c id p l s o s' h
 asks_later c id p l (Some r) s o s' h = same_times s s' _ h.1 refl refl refl
 
 pub does_later : (c : Setting) (me : ℕ) (s : NodeState) (a : Act) (o : Effects) (s' : NodeState) → Does c me s a o s' → Later s s'
-does_later c me s (Rises time) o s' h = rises_later s s' time h.0 h.2
-does_later c me s (Hears m) o s' h = comes_later c m (is_old c s.risen m.born) s o s' h
+does_later c me s (Rises time) o s' h = rises_later s s' time (let later = h.0 in omega arith) h.2
+does_later c me s (Hears m) o s' h = comes_later c me m (is_old c s.risen m.born) s o s' h
 does_later c me s (Asks ask) o s' h = asks_later c (request_at me s.risen) ask.plan ask.level (refusal_of c s (request_at me s.risen) ask.plan ask.level) s o s' h
-does_later c me s (Marks peer up) o s' h = same_times s s' _ h.1 refl refl refl
+does_later c me s (Marks peer up) o s' h = marks_later c s s' peer up h.1
+does_later c me s (DeadlineComes id) o s' h = ends_later c id (open_at s.writes id) s o s' h
+does_later c me s (HintExpires peer number) o s' h = same_times s s' _ h.1 refl refl refl
+
+-- ---- time rises at the beginning of a step alone
+
+abbrev pub IsSteady : Act → Type 0
+IsSteady (Rises time) = ⊥
+IsSteady (Hears m) = Unit {0}
+IsSteady (Asks ask) = Unit {0}
+IsSteady (Marks peer up) = Unit {0}
+IsSteady (DeadlineComes id) = Unit {0}
+IsSteady (HintExpires peer number) = Unit {0}
+
+pub record IsAtOnce (s s' : NodeState) : Type 0 where
+  pub time : s'.time ≡ s.time
+  pub risen : s'.risen ≡ s.risen
+
+at_once : (s s' r : NodeState) → s' ≡ r → r.time ≡ s.time → r.risen ≡ s.risen → IsAtOnce s s'
+at_once s s' r is time risen = record { time = ap (λ (x : NodeState). x.time) is ∙ time; risen = ap (λ (x : NodeState). x.risen) is ∙ risen }
+
+acked_at : (c : Setting) (b : Bool) (s : NodeState) (peer number : ℕ) → IsAtOnce s (if b then with_sent c (hint_done s peer number) peer else hint_done s peer number)
+acked_at c true s peer number = at_once s _ _ refl refl refl
+acked_at c false s peer number = at_once s _ _ refl refl refl
+
+to_at : (s s' r : NodeState) → s' ≡ r → IsAtOnce s r → IsAtOnce s s'
+to_at s s' r is h = subst (λ (x : NodeState). IsAtOnce s x) (sym is) h
+
+body_at : (c : Setting) (me : ℕ) (a : Asker) (b : Body) (s : NodeState) (o : Effects) (s' : NodeState) → HearsBody c me a b s o s' → IsAtOnce s s'
+body_at c me a (Write m) s o s' h = at_once s s' _ h.3 refl refl
+body_at c me a WriteAck s o s' h = at_once s s' _ h.3 refl refl
+body_at c me a (Read q) s o s' h = at_once s s' _ h.3 refl refl
+body_at c me a (ReadReply content) s o s' h = at_once s s' _ h.3 refl refl
+body_at c me a (Hint number m) s o s' h = at_once s s' _ h.3 refl refl
+body_at c me a (HintAck number) s o s' h = to_at s s' _ h.1 (acked_at c (is_last s a.from number) s a.from number)
+
+comes_at : (c : Setting) (me : ℕ) (m : Incoming) (old : Bool) (s : NodeState) (o : Effects) (s' : NodeState) → MatchBool old ((o ≡ nothing) × (s' ≡ s)) (HearsBody c me (asker_of m) m.body s o s') → IsAtOnce s s'
+comes_at c me m true s o s' h = at_once s s' s h.1 refl refl
+comes_at c me m false s o s' h = body_at c me (asker_of m) m.body s o s' h
+
+asks_at : (c : Setting) (id : ReqId) (p : Plan) (l : Level) (r : Option Refusal) (s : NodeState) (o : Effects) (s' : NodeState) → BeginsOrRefuses c id p l r s o s' → IsAtOnce s s'
+asks_at c id (plan.Write d) l None s o s' h = at_once s s' _ h.1 refl refl
+asks_at c id (plan.Read q columns) l None s o s' h = at_once s s' _ h.1 refl refl
+asks_at c id (plan.Use keyspace) l None s o s' h = at_once s s' _ h.1 refl refl
+asks_at c id (plan.Invalid fault) l None s o s' h = absurd h
+asks_at c id p l (Some r) s o s' h = at_once s s' _ h.1 refl refl
+
+ends_read_at : (c : Setting) (id : ReqId) (r : Option OpenRead) (s : NodeState) (o : Effects) (s' : NodeState) → EndsRead c id r s o s' → IsAtOnce s s'
+ends_read_at c id None s o s' h = at_once s s' _ h.1 refl refl
+ends_read_at c id (Some r) s o s' h = at_once s s' _ h.1 refl refl
+
+ends_at : (c : Setting) (id : ReqId) (w : Option OpenWrite) (s : NodeState) (o : Effects) (s' : NodeState) → Ends c id w s o s' → IsAtOnce s s'
+ends_at c id None s o s' h = ends_read_at c id (open_at s.reads id) s o s' h
+ends_at c id (Some w) s o s' h = at_once s s' _ h.1 refl refl
+
+marks_at : (c : Setting) (s s' : NodeState) (peer : ℕ) (up : Bool) → s' ≡ mark_state c s peer up → IsAtOnce s s'
+marks_at c s s' peer true is = at_once s s' _ is refl refl
+marks_at c s s' peer false is = at_once s s' _ is refl refl
+
+pub does_at_once : (c : Setting) (me : ℕ) (s : NodeState) (a : Act) (o : Effects) (s' : NodeState) → IsSteady a → Does c me s a o s' → IsAtOnce s s'
+does_at_once c me s (Rises time) o s' steady h = absurd steady
+does_at_once c me s (Hears m) o s' steady h = comes_at c me m (is_old c s.risen m.born) s o s' h
+does_at_once c me s (Asks ask) o s' steady h = asks_at c (request_at me s.risen) ask.plan ask.level (refusal_of c s (request_at me s.risen) ask.plan ask.level) s o s' h
+does_at_once c me s (Marks peer up) o s' steady h = marks_at c s s' peer up h.1
+does_at_once c me s (DeadlineComes id) o s' steady h = ends_at c id (open_at s.writes id) s o s' h
+does_at_once c me s (HintExpires peer number) o s' steady h = at_once s s' _ h.1 refl refl
 
 pub record AreTimely (w : Scene) : Type 0 where
   -- each move was made in a step that rose to a time that its node's last step rose to too

@@ -9,7 +9,7 @@ use Rattle.peer_messages.specs.declared.event.Ask.{Ask}
 use Rattle.peer_messages.specs.declared.setting.Setting.{Setting}
 use Rattle.durable_state.specs.State.{Durable, IsSameKept}
 use Rattle.node_steps.specs.State.{NodeState, durable_of, loaded, fresh_node}
-use Rattle.node_steps.specs.Acts.{Act, Rises, Hears, Asks, Marks, Deed, Does, Incoming}
+use Rattle.node_steps.specs.Acts.{Act, Rises, Hears, Asks, Marks, DeadlineComes, HintExpires, Deed, Does, Incoming}
 use Rattle.cluster_runs.specs.Chronicle.{submission_of}
 use Rattle.cluster_runs.specs.World.{World, state_of}
 
@@ -48,6 +48,8 @@ MayTake past k s (Rises time) = Unit {0}
 MayTake past k s (Hears m) = WasMade past k m
 MayTake past k s (Asks ask) = IsUnbegun past k s.risen
 MayTake past k s (Marks peer up) = Unit {0}
+MayTake past k s (DeadlineComes id) = Unit {0}
+MayTake past k s (HintExpires peer number) = Unit {0}
 
 -- which node is being loaded while node k makes moves whose outputs are lost, or are not
 abbrev pub loser : Bool → ℕ → Option ℕ

@@ -236,10 +236,18 @@ fn requests_are_refused(rt: HostRuntime) -> Result<(), Fail> {
     Ok(())
 }
 
-fn mark(alloc: Global, node: &mut Tested, peer: u8, up: bool) -> Result<(), Fail> {
+/// Marks a node, and tells how many hints are sent to it.
+fn mark(alloc: Global, node: &mut Tested, peer: u8, up: bool) -> Result<usize, Fail> {
     let outputs = take(alloc, node, What::Alive(id(peer)?, up))?;
-    let is_quiet = outputs.sends.as_slice().is_empty() && outputs.entries.as_slice().is_empty();
-    Ok(is_quiet.then_some(()).ok_or("a mark gives something")?)
+    let sends = outputs.sends.as_slice();
+    let are_hints = sends.iter().all(|sent| sent.upto.number() == peer
+        && matches!(sent.body, Body::Hint(..)));
+    let is_all = are_hints && outputs.entries.as_slice().is_empty();
+    Ok(
+        is_all
+            .then_some(sends.len())
+            .ok_or("a mark gives something else")?,
+    )
 }
 
 /// The other nodes to which a write at this level goes, as the bits of their numbers.
@@ -257,16 +265,17 @@ fn written_to(alloc: Global, node: &mut Tested, level: Level) -> Result<u8, Fail
 fn dead_replicas_are_not_asked(rt: HostRuntime) -> Result<(), Fail> {
     let alloc = rt.alloc();
     let mut first = node(alloc, 0)?;
-    for (peer, up, others, down) in [
-        (1, false, 0b100, 0b010),
-        (1, false, 0b100, 0b010),
-        (0, false, 0b100, 0b010),
-        (5, false, 0b100, 0b010),
-        (2, true, 0b100, 0b010),
-        (1, true, 0b110, 0),
-        (2, false, 0b010, 0b100),
+    // a write at each turn leaves a hint for a node that is marked down
+    for (peer, up, hints, others, down) in [
+        (1, false, 0, 0b100, 0b010),
+        (1, false, 0, 0b100, 0b010),
+        (0, false, 0, 0b100, 0b010),
+        (5, false, 0, 0b100, 0b010),
+        (2, true, 0, 0b100, 0b010),
+        (1, true, 5, 0b110, 0),
+        (2, false, 0, 0b010, 0b100),
     ] {
-        mark(alloc, &mut first, peer, up)?;
+        assert_eq!(rt; mark(alloc, &mut first, peer, up)?, hints);
         assert_eq!(rt; first.down(), down);
         assert_eq!(rt; written_to(alloc, &mut first, Level::Quorum)?, others);
     }
@@ -280,8 +289,8 @@ fn dead_replicas_are_not_asked(rt: HostRuntime) -> Result<(), Fail> {
 fn too_few_replicas_are_alive(rt: HostRuntime) -> Result<(), Fail> {
     let alloc = rt.alloc();
     let mut first = node(alloc, 0)?;
-    mark(alloc, &mut first, 1, false)?;
-    mark(alloc, &mut first, 2, false)?;
+    assert_eq!(rt; mark(alloc, &mut first, 1, false)?, 0);
+    assert_eq!(rt; mark(alloc, &mut first, 2, false)?, 0);
     let few = Refusal::Unavailable {
         required: 2,
         alive: 1,

@@ -8,6 +8,8 @@ mod copies;
 #[cfg(test)]
 mod faults;
 #[cfg(test)]
+mod loaded;
+#[cfg(test)]
 mod log_entries;
 #[cfg(test)]
 mod orders;

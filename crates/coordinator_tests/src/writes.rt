@@ -4,7 +4,7 @@ ghost use Rattle.std.specs.Prelude.{◌≡◌};
 
 use changes::{Draft, DraftMutation, Partition, Place};
 use cs_base::{Bytes, Items, Level, Micros, NodeId, ReqId};
-use peer_messages::{Body, Entry, Move, Refusal, Setting, TableSetting};
+use peer_messages::{Body, Entry, Move, Refusal, Setting, TableSetting, copy_nodes};
 use std::alloc::Global;
 use std::test::Fail;
 use token_ring::Ring;
@@ -47,6 +47,13 @@ fn draft(alloc: Global) -> Result<DraftMutation, Fail> {
         key: Bytes::from_slice(alloc, b"k")?,
     };
     Ok(DraftMutation { partition, changes })
+}
+
+/// A write at QUORUM, for which a hint was kept for each of these.
+fn opened(alloc: Global, hinted: &[NodeId]) -> Result<WriteCoord, Fail> {
+    let mutation = draft(alloc)?.mutation(alloc, request(7))?;
+    let hinted = copy_nodes(alloc, hinted)?;
+    Ok(WriteCoord::start(alloc, Level::Quorum, mutation, hinted)?)
 }
 
 /// Whether the client is told of one acknowledgement where two are needed, and the write is done with.
@@ -115,7 +122,7 @@ fn goes_to_replicas_that_are_alive(rt: HostRuntime) -> Result<(), Fail> {
 fn is_answered_at_a_quorum_and_waits_on(rt: HostRuntime) -> Result<(), Fail> {
     let alloc = rt.alloc();
     let setting = three_of_four(alloc)?;
-    let mut open = WriteCoord::start(alloc, Level::Quorum, &draft(alloc)?)?;
+    let mut open = opened(alloc, &[])?;
     for from in [0, 2, 2] {
         assert!(rt; is_quiet(&open.on_ack(alloc, &setting, request(7), node(from)?)?));
     }
@@ -131,7 +138,7 @@ fn is_answered_at_a_quorum_and_waits_on(rt: HostRuntime) -> Result<(), Fail> {
 fn is_told_nothing_more_at_its_deadline(rt: HostRuntime) -> Result<(), Fail> {
     let alloc = rt.alloc();
     let setting = three_of_four(alloc)?;
-    let mut open = WriteCoord::start(alloc, Level::Quorum, &draft(alloc)?)?;
+    let mut open = opened(alloc, &[])?;
     for from in [2, 3] {
         assert!(rt; !open.on_ack(alloc, &setting, request(7), node(from)?)?.ended);
     }
@@ -146,7 +153,7 @@ fn is_told_nothing_more_at_its_deadline(rt: HostRuntime) -> Result<(), Fail> {
 fn is_told_at_its_deadline(rt: HostRuntime) -> Result<(), Fail> {
     let alloc = rt.alloc();
     let setting = three_of_four(alloc)?;
-    let mut open = WriteCoord::start(alloc, Level::Quorum, &draft(alloc)?)?;
+    let mut open = opened(alloc, &[])?;
     // Node 0 is no replica, and the second acknowledgement of node 2 counts for nothing.
     for from in [0, 2, 2] {
         assert!(rt; is_quiet(&open.on_ack(alloc, &setting, request(7), node(from)?)?));
@@ -166,5 +173,23 @@ fn is_told_at_its_deadline(rt: HostRuntime) -> Result<(), Fail> {
         assert_eq!(rt; is_timeout_at_one(&turn), is_told, "{start} at {time}");
         assert_eq!(rt; is_quiet(&turn), !is_told, "{start} at {time}");
     }
+    Ok(())
+}
+
+#[test]
+fn needs_no_acknowledgement_of_whom_a_hint_waits_for(rt: HostRuntime) -> Result<(), Fail> {
+    let alloc = rt.alloc();
+    let setting = three_of_four(alloc)?;
+    let mut open = opened(alloc, &[node(1)?])?;
+    assert!(rt; open.unheard(&setting, alloc)?.as_slice() == [node(2)?, node(3)?].as_slice());
+    assert!(rt; is_quiet(&open.on_ack(alloc, &setting, request(7), node(3)?)?));
+    assert!(rt; !open.is_answered());
+    assert!(rt; open.unheard(&setting, alloc)?.as_slice() == [node(2)?].as_slice());
+    // It is answered, and done with: node 1 has a hint.
+    let turn = open.on_ack(alloc, &setting, request(7), node(2)?)?;
+    assert!(rt; turn.ended && matches!(turn.entries.as_slice(), [Entry::Acked(..)]));
+    assert!(rt; open.is_answered() && open.unheard(&setting, alloc)?.as_slice().is_empty());
+    assert_eq!(rt; open.mutation().changes.as_slice().len(), 1);
+    assert!(rt; open.copy()?.is_answered());
     Ok(())
 }

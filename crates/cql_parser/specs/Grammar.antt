@@ -191,8 +191,11 @@ parenthesized f = symbol kinds.OpenParenthesis ▹ f ◃ symbol kinds.CloseParen
 abbrev pub entry_of : Literal × Literal → ReplicationEntry
 entry_of v = record { key = v.0; value = v.1 }
 
+unfoldable pub entry_value : Form Literal
+entry_value = string ⊕ integer
+
 unfoldable pub entry : Form ReplicationEntry
-entry = Made entry_of (string & (symbol kinds.Colon ▹ (string ⊕ integer)))
+entry = Made entry_of (string & (symbol kinds.Colon ▹ entry_value))
 
 unfoldable pub replication : Form (List ReplicationEntry)
 replication = symbol kinds.OpenBrace ▹ listed entry ◃ symbol kinds.CloseBrace

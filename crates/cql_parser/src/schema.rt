@@ -21,6 +21,18 @@ use cql_values::{CqlType, Literal, LiteralKind};
 use cs_base::Items;
 use std::alloc::Global;
 
+/// A string or a whole number.
+#[tactic(auto, unfolding(crate::specs::Grammar::entry_value))]
+fn entry_value(cursor: &mut Cursor<'_>, alloc: Global) -> Result<Literal, Halt>
+    ensures { Reads (read grammar.entry_value cursor.old) result cursor.new }
+{
+    if cursor.next_is_symbol(TokenKind::Str) {
+        literal(cursor, alloc, TokenKind::Str, LiteralKind::Str)
+    } else {
+        literal(cursor, alloc, TokenKind::Whole, LiteralKind::Whole)
+    }
+}
+
 impl Part for ReplicationEntry {
     ghost reads = { read grammar.entry };
 
@@ -28,11 +40,7 @@ impl Part for ReplicationEntry {
     fn read(cursor: &mut Cursor<'_>, alloc: Global) -> Result<ReplicationEntry, Halt> {
         let key = literal(cursor, alloc, TokenKind::Str, LiteralKind::Str)?;
         cursor.symbol(TokenKind::Colon)?;
-        let value = if cursor.next_is_symbol(TokenKind::Str) {
-            literal(cursor, alloc, TokenKind::Str, LiteralKind::Str)?
-        } else {
-            literal(cursor, alloc, TokenKind::Whole, LiteralKind::Whole)?
-        };
+        let value = entry_value(cursor, alloc)?;
         Ok(ReplicationEntry { key, value })
     }
 }

@@ -4,9 +4,8 @@ ghost use Rattle.std.specs.Prelude.{◌≡◌, ◌==◌, ◌≤◌, ◌↔◌, L
 ghost use Rattle.std.specs.Ordering.{nat_cmp};
 ghost use Rattle.std.specs.Cmp;
 ghost use Rattle.std.specs.Cmp.Lexicographic.{pointwise, slice_cmp, nat_list_eq_equiv, nat_list_cmp_total, texts_ties, texts_po};
-ghost use Rattle.cs_base.specs.ByteStrings.{bytes_kept};
+ghost use Rattle.cs_base.specs.ByteStrings.{bytes_kept, short_bytes};
 
-use arrayvec::ArrayVec;
 use std::alloc::{AllocError, Global};
 use std::cmp::Ordering;
 use std::fmt::{self, Debug, Formatter, Write};
@@ -14,12 +13,44 @@ use std::marker::Model;
 use std::sync::Arc;
 
 /// The longest string that is kept in the value itself. Most keys, names of rows and values are no longer.
-pub(crate) const INLINE: usize = 24;
+const INLINE: usize = 23;
+
+/// A string of few bytes, in as much memory as a `Vec` takes.
+#[derive(Clone, Copy)]
+struct Short {
+    len: u8,
+    bytes: [u8; INLINE],
+}
+
+impl Short {
+    /// The bytes, if they are few enough.
+    fn of(bytes: &[u8]) -> Option<Short>
+        ensures { IfSome result (λ short. short_bytes short ≡ bytes.now) }
+    {
+        let len = bytes.len();
+        if len > INLINE {
+            return None;
+        }
+        let mut kept = [0; INLINE];
+        kept[..len].copy_from_slice(bytes);
+        Some(Short {
+            len: len as u8,
+            bytes: kept,
+        })
+    }
+
+    fn as_slice(&self) -> &[u8]
+        ensures { result.now ≡ short_bytes self.now }
+    {
+        let len = usize::from(self.len).min(INLINE);
+        &self.bytes[..len]
+    }
+}
 
 /// Where the bytes lie: in the value itself, in memory that copies share, or in memory that was handed in.
 #[derive(Drop)]
 enum Kept {
-    Inline(ArrayVec<u8, INLINE>),
+    Inline(Short),
     Shared(Arc<Vec<u8>>),
     Owned(Vec<u8>),
 }
@@ -29,11 +60,7 @@ impl Kept {
     fn inline(bytes: &[u8]) -> Option<Kept>
         ensures { IfSome result (λ kept. bytes_kept kept ≡ bytes.now) }
     {
-        let mut short = ArrayVec::new();
-        match short.try_extend_from_slice(bytes) {
-            Ok(()) => Some(Kept::Inline(short)),
-            Err(_) => None,
-        }
+        Short::of(bytes).map(Kept::Inline)
     }
 
     /// The bytes in memory that copies can share, or else where they were.
@@ -80,7 +107,10 @@ impl Bytes {
         ensures { result ≡ [] }
     {
         Bytes {
-            kept: Kept::Inline(ArrayVec::new()),
+            kept: Kept::Inline(Short {
+                len: 0,
+                bytes: [0; INLINE],
+            }),
         }
     }
 
@@ -132,10 +162,13 @@ impl Bytes {
         ensures { IfOk result (λ copy. copy ≡ self.now) }
     {
         match &self.kept {
+            Kept::Inline(short) => Ok(Bytes {
+                kept: Kept::Inline(*short),
+            }),
             Kept::Shared(bytes) => Ok(Bytes {
                 kept: Kept::Shared(Arc::try_clone(bytes)?),
             }),
-            kept => Bytes::from_slice(alloc, kept.as_slice()),
+            Kept::Owned(bytes) => Bytes::from_slice(alloc, bytes.as_slice()),
         }
     }
 }

@@ -3,12 +3,14 @@
 ghost use Rattle.std.specs.Prelude.{◌≡◌, [], IfOk, IfSome, string_bytes};
 ghost use Rattle.cs_base.specs.ByteStrings.{text_kept};
 
-use crate::bytes::INLINE;
 use arrayvec::ArrayString;
 use std::alloc::{AllocError, Global};
 use std::fmt::{self, Debug, Formatter, Write};
 use std::marker::Model;
 use std::sync::Arc;
+
+/// The longest text that is kept in the value itself.
+const INLINE: usize = 24;
 
 /// Where the text lies: in the value itself, in memory that copies share, or in memory that was handed in.
 #[derive(Drop)]

@@ -10,3 +10,4 @@ pub mod Readers
 pub mod ScriptHolds
 pub mod Trimming
 pub mod WordLaws
+pub mod WordSplits

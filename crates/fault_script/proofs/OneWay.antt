@@ -5,8 +5,8 @@ use Rattle.cql_parser.specs.declared.error.ParseError.{ParseError}
 use Rattle.cql_parser.specs.declared.error.ParseError.TheVariants as cql
 use Rattle.cql_parser.specs.Parsing.{OneReading, OneRefusal, NoRefusal}
 use Rattle.fault_script.specs.declared.script.Script.{Script}
-use Rattle.fault_script.specs.declared.script.ScriptEvent.{ScriptEvent}
-use Rattle.fault_script.specs.declared.script.ScriptEvent.TheVariants as event
+use Rattle.fault_script.specs.declared.script.EventLine.{EventLine}
+use Rattle.fault_script.specs.declared.script.EventLine.TheVariants as asks
 use Rattle.fault_script.specs.declared.script.ScriptError.{ScriptError}
 use Rattle.fault_script.specs.declared.script.ScriptError.TheVariants as refused
 use Rattle.fault_script.specs.declared.script.Fault.{Fault}
@@ -16,7 +16,7 @@ use Rattle.fault_script.specs.declared.reader.Stage.{Stage}
 use Rattle.fault_script.specs.declared.reader.Stage.TheVariants as stage
 use Rattle.fault_script.specs.declared.reader.Reader.{Reader}
 use Rattle.fault_script.specs.Lines.{head_line, event_at, is_skipped, lines_of}
-use Rattle.fault_script.specs.Script.{IsOneStatement, IsRefusedAt, offset_of, schema_of, with_statement, opened, counted, first_refusal, HeadGoes, HeadStops, EventGoes, EventStops, IsRefusedEvent, LineGoes, LineStops, GoesBy, StopsBy, Goes, Reads, IsReadBy, IsRead, first_reader, longest_script}
+use Rattle.fault_script.specs.Script.{IsOneStatement, IsRefusedAt, offset_of, schema_of, with_statement, with_event, cql_event, opened, counted, first_refusal, HeadGoes, HeadStops, EventGoes, EventStops, IsRefusedEvent, LineGoes, LineStops, GoesBy, StopsBy, Goes, Reads, IsReadBy, IsRead, first_reader, longest_script}
 
 -- the laws of statements
 pub record CqlLaws : Type 0 where
@@ -82,50 +82,30 @@ head_not_both laws reader (Err f) a e g s = g
 
 -- ---- events
 
-event_goes_one : (reader : Reader) (r : Result ScriptEvent Fault) (a b : Reader) → EventGoes reader r a → EventGoes reader r b → a ≡ b
-event_goes_one reader (Ok event) a b g h = g.1 ∙ sym h.1
-event_goes_one reader (Err f) a b g h = absurd g
+event_goes_one : CqlLaws → (reader : Reader) (r : Result EventLine Fault) (a b : Reader) → EventGoes reader r a → EventGoes reader r b → a ≡ b
+event_goes_one laws reader (Ok (asks.Event event)) a b g h = g ∙ sym h
+event_goes_one laws reader (Ok (asks.Cql node level text)) a b g h =
+    g.2 ∙ (ap (λ (s : Statement). with_event reader (cql_event node level text s)) (one_statement laws text g.0 h.0 g.1 h.1) ∙ sym h.2)
+event_goes_one laws reader (Err f) a b g h = absurd g
 
-refused_one : CqlLaws → (n : ℕ) (event : ScriptEvent) (a b : ScriptError) → IsRefusedEvent n event a → IsRefusedEvent n event b → a ≡ b
-refused_one laws n (event.Put put) a b g h = absurd g
-refused_one laws n (event.Get get) a b g h = absurd g
-refused_one laws n (event.Cql request) a b g h = g.2 ∙ (ap (refused.Cql n) (one_offset laws request.text g.0 h.0 g.1 h.1) ∙ sym h.2)
-refused_one laws n (event.Deliver place) a b g h = absurd g
-refused_one laws n (event.Drop place) a b g h = absurd g
-refused_one laws n (event.Settle count) a b g h = absurd g
-refused_one laws n (event.Clock node micros) a b g h = absurd g
-refused_one laws n (event.Crash node outcome) a b g h = absurd g
-refused_one laws n (event.StopAt node call outcome) a b g h = absurd g
-refused_one laws n (event.FailAt node call) a b g h = absurd g
-refused_one laws n (event.Restart node) a b g h = absurd g
-refused_one laws n (event.Flush node) a b g h = absurd g
-refused_one laws n (event.Merge node) a b g h = absurd g
+refused_one : CqlLaws → (n : ℕ) (said : EventLine) (a b : ScriptError) → IsRefusedEvent n said a → IsRefusedEvent n said b → a ≡ b
+refused_one laws n (asks.Event event) a b g h = absurd g
+refused_one laws n (asks.Cql node level text) a b g h = g.2 ∙ (ap (refused.Cql n) (one_offset laws text g.0 h.0 g.1 h.1) ∙ sym h.2)
 
-event_stops_one : CqlLaws → (reader : Reader) (r : Result ScriptEvent Fault) (a b : ScriptError) → EventStops reader r a → EventStops reader r b → a ≡ b
-event_stops_one laws reader (Ok event) a b g h = refused_one laws reader.number event a b g h
+event_stops_one : CqlLaws → (reader : Reader) (r : Result EventLine Fault) (a b : ScriptError) → EventStops reader r a → EventStops reader r b → a ≡ b
+event_stops_one laws reader (Ok said) a b g h = refused_one laws reader.number said a b g h
 event_stops_one laws reader (Err f) a b g h = g ∙ sym h
 
-event_not_both : CqlLaws → (reader : Reader) (r : Result ScriptEvent Fault) (a : Reader) (e : ScriptError) → EventGoes reader r a → EventStops reader r e → ⊥
-event_not_both laws reader (Ok (event.Put put)) a e g s = s
-event_not_both laws reader (Ok (event.Get get)) a e g s = s
-event_not_both laws reader (Ok (event.Cql request)) a e g s = not_both laws request.text g.0.0 s.0 g.0.1 s.1
-event_not_both laws reader (Ok (event.Deliver place)) a e g s = s
-event_not_both laws reader (Ok (event.Drop place)) a e g s = s
-event_not_both laws reader (Ok (event.Settle count)) a e g s = s
-event_not_both laws reader (Ok (event.Clock node micros)) a e g s = s
-event_not_both laws reader (Ok (event.Crash node outcome)) a e g s = s
-event_not_both laws reader (Ok (event.StopAt node call outcome)) a e g s = s
-event_not_both laws reader (Ok (event.FailAt node call)) a e g s = s
-event_not_both laws reader (Ok (event.Restart node)) a e g s = s
-event_not_both laws reader (Ok (event.Flush node)) a e g s = s
-event_not_both laws reader (Ok (event.Merge node)) a e g s = s
+event_not_both : CqlLaws → (reader : Reader) (r : Result EventLine Fault) (a : Reader) (e : ScriptError) → EventGoes reader r a → EventStops reader r e → ⊥
+event_not_both laws reader (Ok (asks.Event event)) a e g s = s
+event_not_both laws reader (Ok (asks.Cql node level text)) a e g s = not_both laws text g.0 s.0 g.1 s.1
 event_not_both laws reader (Err f) a e g s = g
 
 -- ---- lines
 
 line_goes_one : CqlLaws → (s : Stage) (reader : Reader) (line : List ℕ) (a b : Reader) → LineGoes s reader line a → LineGoes s reader line b → a ≡ b
 line_goes_one laws (stage.Head next) reader line a b g h = head_goes_one laws reader (head_line next line) a b g h
-line_goes_one laws (stage.Events opening) reader line a b g h = event_goes_one reader (event_at (length opening.settings.ring) line) a b g h
+line_goes_one laws (stage.Events opening) reader line a b g h = event_goes_one laws reader (event_at (length opening.settings.ring) line) a b g h
 
 line_stops_one : CqlLaws → (s : Stage) (reader : Reader) (line : List ℕ) (a b : ScriptError) → LineStops s reader line a → LineStops s reader line b → a ≡ b
 line_stops_one laws (stage.Head next) reader line a b g h = head_stops_one laws reader (head_line next line) a b g h

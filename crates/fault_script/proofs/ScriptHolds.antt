@@ -7,6 +7,8 @@ use Rattle.schema_book.specs.Books.{Book, book_of}
 use Rattle.schema_book.specs.declared.error.Refused.{Refused}
 use Rattle.fault_script.specs.declared.script.Script.{Script}
 use Rattle.fault_script.specs.declared.script.ScriptEvent.{ScriptEvent}
+use Rattle.fault_script.specs.declared.script.EventLine.{EventLine}
+use Rattle.fault_script.specs.declared.script.EventLine.TheVariants as asks
 use Rattle.fault_script.specs.declared.script.ScriptError.{ScriptError}
 use Rattle.fault_script.specs.declared.script.ScriptError.TheVariants as refused
 use Rattle.fault_script.specs.declared.script.Fault.{Fault}
@@ -18,10 +20,10 @@ use Rattle.fault_script.specs.declared.reader.Stage.TheVariants as stage
 use Rattle.fault_script.specs.declared.reader.Reader.{Reader}
 use Rattle.fault_script.specs.Lines.{head_line, event_at, is_skipped, lines_of}
 use Rattle.fault_script.specs.Written.{WrittenSchema}
-use Rattle.fault_script.specs.Script.{IsOneStatement, IsSaid, IsRead, IsReadBy, Reads, Goes, GoesBy, LineGoes, HeadGoes, EventGoes, made_of, end_of, script_with, longest_script, most_lines, first_reader}
+use Rattle.fault_script.specs.Script.{IsOneStatement, IsSaid, IsRead, IsReadBy, Reads, Goes, GoesBy, LineGoes, HeadGoes, EventGoes, with_event, cql_event, made_of, end_of, script_with, longest_script, most_lines, first_reader}
 use Rattle.fault_script.specs.Laws.{HasExpiry, HasRing, HasSchema, IsAtNodes, AreStatements}
 use Rattle.fault_script.proofs.HeadHolds.{AreSettings, Knows, Says, head_line_holds}
-use Rattle.fault_script.proofs.EventHolds.{event_at_holds}
+use Rattle.fault_script.proofs.EventHolds.{SaysAtNodes, event_at_holds}
 
 -- ---- what was read
 
@@ -74,14 +76,20 @@ head_goes n s written events (Ok (says.Run settings)) read knows are none goes =
     })
 head_goes n s written events (Err f) read knows are none goes = absurd goes
 
-event_goes : (n : ℕ) (opening : Opening) (written : WrittenSchema) (events : List ScriptEvent) (r : Result ScriptEvent Fault) (read : Reader) → Holds (stage.Events opening) written events → IfOk r (IsAtNodes (length opening.settings.ring)) → EventGoes (record { number = n; stage = stage.Events opening; written = written; events = events }) r read → IsReader read
-event_goes n opening written events (Ok event) read holds at goes =
-    subst IsReader (sym goes.1) (record {
+with_one : (n : ℕ) (opening : Opening) (written : WrittenSchema) (events : List ScriptEvent) (event : ScriptEvent) (read : Reader) → Holds (stage.Events opening) written events
+    → IsAtNodes (length opening.settings.ring) event → IsSaid event → read ≡ with_event (record { number = n; stage = stage.Events opening; written = written; events = events }) event → IsReader read
+with_one n opening written events event read holds at said is =
+    subst IsReader (sym is) (record {
       ring = holds.ring;
       texts = holds.texts;
       book = holds.book;
-      behind = (All-push (IsAtNodes (length opening.settings.ring)) events event holds.behind.0 at, All-push IsSaid events event holds.behind.1 goes.0);
+      behind = (All-push (IsAtNodes (length opening.settings.ring)) events event holds.behind.0 at, All-push IsSaid events event holds.behind.1 said);
     })
+
+event_goes : (n : ℕ) (opening : Opening) (written : WrittenSchema) (events : List ScriptEvent) (r : Result EventLine Fault) (read : Reader) → Holds (stage.Events opening) written events → IfOk r (SaysAtNodes (length opening.settings.ring)) → EventGoes (record { number = n; stage = stage.Events opening; written = written; events = events }) r read → IsReader read
+event_goes n opening written events (Ok (asks.Event event)) read holds at goes = with_one n opening written events event read holds at.0 at.1 goes
+event_goes n opening written events (Ok (asks.Cql node level text)) read holds at goes =
+    with_one n opening written events (cql_event node level text goes.0) read holds at goes.1 goes.2
 event_goes n opening written events (Err f) read holds at goes = absurd goes
 
 line_goes : (n : ℕ) (s : Stage) (written : WrittenSchema) (events : List ScriptEvent) (line : List ℕ) (read : Reader) → Holds s written events → LineGoes s (record { number = n; stage = s; written = written; events = events }) line read → IsReader read

@@ -6,7 +6,7 @@ use Rattle.std.specs.List.{slice_split, list_all}
 use Rattle.std.specs.Str.Lossy.{utf8_valid_len}
 use Rattle.std.proofs.lemmas.Bool.{and_from, and_parts, eq-eqb, ne_eqb, not_from_false, cond-true}
 use Rattle.std.specs.Str.{bytes_eq}
-use Rattle.fault_script.specs.Lines.{is_text, is_well_formed, words_of, signed_value, without_spaces, behind}
+use Rattle.fault_script.specs.Lines.{is_text, is_well_formed, words_in, words_of, signed_value, without_spaces, behind}
 use Rattle.fault_script.specs.Words.{texts_of}
 
 pub well_formed_line : (line : List ℕ) → utf8_valid_len line ≡ length line → get_or line 0 0 ≢ 32 → get_or line (length line - 1) 0 ≢ 32 → is_well_formed line ≡ true
@@ -18,25 +18,9 @@ well_formed_line line text first last =
     (and_from a b (eq-eqb (utf8_valid_len line) (length line) text) (not_from_false (eqb (get_or line 0 0) 32) (ne_eqb (get_or line 0 0) 32 first)))
     (not_from_false (eqb (get_or line (length line - 1) 0) 32) (ne_eqb (get_or line (length line - 1) 0) 32 last))
 
-abbrev pub is_word : List ℕ → Bool
-is_word w = not (length w == 0)
-
-abbrev pub is_word_ref : Bor (List ℕ) → Bool
-is_word_ref w = is_word w.now
-
-pub texts_of-filter : (xs : List (Bor (List ℕ))) → texts_of (filter is_word_ref xs) ≡ filter is_word (texts_of xs)
-texts_of-filter [] = refl
-texts_of-filter (x ∷ xs) =
-    elim (is_word x.now) as (λ b. texts_of (cond b (x ∷ filter is_word_ref xs) (filter is_word_ref xs)) ≡ cond b (x.now ∷ filter is_word (texts_of xs)) (filter is_word (texts_of xs))) [
-      | true ↦ ap (λ (ws : List (List ℕ)). x.now ∷ ws) (texts_of-filter xs)
-      | false ↦ texts_of-filter xs
-    ]
-
-pub words_found : (line text : List ℕ) (split kept : List (Bor (List ℕ))) → text ≡ line → is_well_formed line ≡ true → texts_of split ≡ slice_split (λ b. b == 32) text → kept ≡ filter is_word_ref split → Some (texts_of kept) ≡ words_of line
-words_found line text split kept same formed parts is =
-    let found : texts_of kept ≡ filter is_word (slice_split (λ b. b == 32) line) =
-    ap texts_of is ∙ texts_of-filter split ∙ ap (filter is_word) parts ∙ ap (λ (t : List ℕ). filter is_word (slice_split (λ b. b == 32) t)) same in
-    ap (λ (ws : List (List ℕ)). Some ws) found ∙ sym (cond-true (is_well_formed line) _ _ formed)
+pub words_found : (line text : List ℕ) (words : List (Bor (List ℕ))) → text ≡ line → is_well_formed line ≡ true → texts_of words ≡ words_in text → Some (texts_of words) ≡ words_of line
+words_found line text words same formed are =
+    ap (λ (ws : List (List ℕ)). Some ws) (are ∙ ap words_in same) ∙ sym (cond-true (is_well_formed line) _ _ formed)
 
 -- word i
 abbrev pub word_at : List (Bor (List ℕ)) → ℕ → List ℕ

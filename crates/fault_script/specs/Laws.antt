@@ -1,5 +1,5 @@
 -- What holds of each script.
-use Rattle.std.specs.Prelude.{◌≡◌, ℕ, ◌<◌, ◌≤◌, Result, Ok, List, [], ◌∷◌, length, All}
+use Rattle.std.specs.Prelude.{◌≡◌, ◌≢◌, ℕ, ◌<◌, ◌≤◌, Result, Ok, List, [], ◌∷◌, length, All}
 use Rattle.cs_base.specs.Ring.{IsRing}
 use Rattle.cql_statement.specs.declared.statement.Statement.{Statement}
 use Rattle.schema_book.specs.Books.{book_of}
@@ -31,7 +31,11 @@ ScriptsHaveAnExpiry = (text : List ℕ) (script : Script) → IsRead text (Ok sc
 abbrev pub IsBetweenNodes : ℕ → MessagePlace → Type 0
 IsBetweenNodes nodes place = (place.from < nodes) × (place.upto < nodes)
 
--- the nodes of an event are among so many
+-- a node and another one are among so many
+abbrev pub ArePeers : ℕ → ℕ → ℕ → Type 0
+ArePeers nodes node peer = (node < nodes) × (peer < nodes) × (node ≢ peer)
+
+-- the nodes of an event are among so many, and a mark is of another node
 abbrev pub IsAtNodes : ℕ → ScriptEvent → Type 0
 IsAtNodes nodes (event.Put put) = put.node < nodes
 IsAtNodes nodes (event.Get get) = get.node < nodes
@@ -40,6 +44,7 @@ IsAtNodes nodes (event.Deliver place) = IsBetweenNodes nodes place
 IsAtNodes nodes (event.Drop place) = IsBetweenNodes nodes place
 IsAtNodes nodes (event.Settle count) = Unit {0}
 IsAtNodes nodes (event.Clock node micros) = node < nodes
+IsAtNodes nodes (event.Mark node peer up) = ArePeers nodes node peer
 IsAtNodes nodes (event.Crash node outcome) = node < nodes
 IsAtNodes nodes (event.StopAt node call outcome) = node < nodes
 IsAtNodes nodes (event.FailAt node call) = node < nodes
@@ -50,7 +55,7 @@ IsAtNodes nodes (event.Merge node) = node < nodes
 abbrev pub EventsAreAtNodes : Type 0
 EventsAreAtNodes = (text : List ℕ) (script : Script) → IsRead text (Ok script) → All (IsAtNodes (length script.ring)) script.events
 
--- what an event says in CQL is a statement
+-- the statement of each event is that of its text
 abbrev pub StatementsAreRead : Type 0
 StatementsAreRead = (text : List ℕ) (script : Script) → IsRead text (Ok script) → All IsSaid script.events
 

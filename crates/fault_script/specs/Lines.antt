@@ -13,6 +13,8 @@ use Rattle.cs_store.specs.declared.mem_file.Outcome.{Outcome}
 use Rattle.cs_store.specs.declared.mem_file.Outcome.TheVariants.{Kept, Lost, Torn}
 use Rattle.fault_script.specs.declared.script.ScriptEvent.{ScriptEvent}
 use Rattle.fault_script.specs.declared.script.ScriptEvent.TheVariants as event
+use Rattle.fault_script.specs.declared.script.EventLine.{EventLine}
+use Rattle.fault_script.specs.declared.script.EventLine.TheVariants as says
 use Rattle.fault_script.specs.declared.script.MessagePlace.{MessagePlace}
 use Rattle.fault_script.specs.declared.script.Fault.{Fault}
 use Rattle.fault_script.specs.declared.script.Fault.TheVariants as fault
@@ -45,9 +47,17 @@ is_text bytes = utf8_valid_len bytes == length bytes
 abbrev pub is_well_formed : List ℕ → Bool
 is_well_formed line = is_text line && not (slice_index line 0 == 32) && not (slice_index line (length line - 1) == 32)
 
--- its words, which one or more spaces separate
+-- those that are not empty
+abbrev pub some_of : List (List ℕ) → List (List ℕ)
+some_of words = filter (λ w. not (length w == 0)) words
+
+-- the words that one or more spaces separate
+abbrev pub words_in : List ℕ → List (List ℕ)
+words_in text = some_of (slice_split (λ b. b == 32) text)
+
+-- the words of a line
 abbrev pub words_of : List ℕ → Option (List (List ℕ))
-words_of line = if is_well_formed line then Some (filter (λ w. not (length w == 0)) (slice_split (λ b. b == 32) line)) else None
+words_of line = if is_well_formed line then Some (words_in line) else None
 
 -- ---- lines that end with a statement
 
@@ -130,6 +140,13 @@ outcome_of word =
     else (if bytes_eq word (codes "lost") then Some Lost
     else (if bytes_eq word (codes "torn") then Some Torn
     else None))
+
+-- whether a mark says that the peer is alive, by its word
+abbrev pub up_of : List ℕ → Option Bool
+up_of word =
+    if bytes_eq word (codes "up") then Some true
+    else (if bytes_eq word (codes "down") then Some false
+    else None)
 
 -- what words give that are understood, or refused by this fault: a value, where their numbers and their level are in range
 abbrev pub understood : {T : Type 0} → Fault → Bool → Option T → Result T Fault
@@ -303,6 +320,23 @@ clock_at pair = event.Clock pair.0 pair.1
 abbrev pub clock_line : ℕ → List (List ℕ) → Result ScriptEvent Fault
 clock_line nodes words = result_map clock_at (pair_line nodes 0 (2 ^ 64 - 1) words)
 
+-- the node, and another one
+abbrev pub peers_of : Option ℕ → Option ℕ → Option (ℕ × ℕ)
+peers_of (Some node) (Some peer) = if node == peer then None else Some (node, peer)
+peers_of _ _ = None
+
+abbrev pub named_peers : ℕ → List ℕ → List ℕ → Result (ℕ × ℕ) Fault
+named_peers nodes node peer = understood fault.Line (is_number node && is_number peer) (peers_of (node_of nodes node) (node_of nodes peer))
+
+-- what is neither `up` nor `down` is a wrong word
+abbrev pub mark_of : Option Bool → Result (ℕ × ℕ) Fault → Result ScriptEvent Fault
+mark_of None peers = Err fault.Line
+mark_of (Some up) peers = result_map (λ (p : ℕ × ℕ). event.Mark p.0 p.1 up) peers
+
+abbrev pub mark_line : ℕ → List (List ℕ) → Result ScriptEvent Fault
+mark_line nodes (node ∷ peer ∷ state ∷ []) = mark_of (up_of state) (named_peers nodes node peer)
+mark_line nodes words = Err fault.Line
+
 -- an outcome that is none is a wrong word
 abbrev pub crash_of : Option Outcome → Result ℕ Fault → Result ScriptEvent Fault
 crash_of None node = Err fault.Line
@@ -330,13 +364,14 @@ fail_line nodes words = result_map fail_at (pair_line nodes 1 4294967295 words)
 abbrev pub node_event : ℕ → List ℕ → List (List ℕ) → Result ScriptEvent Fault
 node_event nodes word words =
     if bytes_eq word (codes "clock") then clock_line nodes words
+    else (if bytes_eq word (codes "mark") then mark_line nodes words
     else (if bytes_eq word (codes "crash") then crash_line nodes words
     else (if bytes_eq word (codes "stopat") then stop_line nodes words
     else (if bytes_eq word (codes "failat") then fail_line nodes words
     else (if bytes_eq word (codes "restart") then result_map event.Restart (node_line nodes words)
     else (if bytes_eq word (codes "flush") then result_map event.Flush (node_line nodes words)
     else (if bytes_eq word (codes "merge") then result_map event.Merge (node_line nodes words)
-    else Err fault.Line))))))
+    else Err fault.Line)))))))
 
 abbrev pub word_line : ℕ → List ℕ → List (List ℕ) → Result ScriptEvent Fault
 word_line nodes word words =
@@ -351,33 +386,33 @@ abbrev pub event_line : ℕ → List (List ℕ) → Result ScriptEvent Fault
 event_line nodes [] = Err fault.Line
 event_line nodes (word ∷ words) = word_line nodes word words
 
--- ---- events with a statement
+-- ---- lines with a statement
 
-abbrev pub cql_of : Option ℕ → Option Level → List ℕ → Option ScriptEvent
-cql_of (Some node) (Some level) text = Some (event.Cql (record { node = node; level = level; text = text }))
+abbrev pub cql_of : Option ℕ → Option Level → List ℕ → Option EventLine
+cql_of (Some node) (Some level) text = Some (says.Cql node level text)
 cql_of _ _ text = None
 
 -- what stands behind the node is the level and the statement
-abbrev pub cql_behind : ℕ → List ℕ → Option (List ℕ × List ℕ) → Result ScriptEvent Fault
+abbrev pub cql_behind : ℕ → List ℕ → Option (List ℕ × List ℕ) → Result EventLine Fault
 cql_behind nodes node None = Err fault.Line
 cql_behind nodes node (Some rest) = understood fault.Line (is_number node) (cql_of (node_of nodes node) (level_of rest.0) rest.1)
 
-abbrev pub cql_from : ℕ → Option (List ℕ × List ℕ) → Result ScriptEvent Fault
+abbrev pub cql_from : ℕ → Option (List ℕ × List ℕ) → Result EventLine Fault
 cql_from nodes None = Err fault.Line
 cql_from nodes (Some rest) = cql_behind nodes rest.0 (first_word rest.1)
 
 -- `<node> <level> <statement>`
-abbrev pub cql_line : ℕ → List ℕ → Result ScriptEvent Fault
+abbrev pub cql_line : ℕ → List ℕ → Result EventLine Fault
 cql_line nodes text = cql_from nodes (first_word text)
 
 abbrev pub event_of_words : ℕ → Option (List (List ℕ)) → Result ScriptEvent Fault
 event_of_words nodes None = Err fault.Line
 event_of_words nodes (Some words) = event_line nodes words
 
-abbrev pub event_of : ℕ → List ℕ → Option (List ℕ) → Result ScriptEvent Fault
+abbrev pub event_of : ℕ → List ℕ → Option (List ℕ) → Result EventLine Fault
 event_of nodes line (Some text) = cql_line nodes text
-event_of nodes line None = event_of_words nodes (words_of line)
+event_of nodes line None = result_map says.Event (event_of_words nodes (words_of line))
 
 -- what a line behind `run` says
-abbrev pub event_at : ℕ → List ℕ → Result ScriptEvent Fault
+abbrev pub event_at : ℕ → List ℕ → Result EventLine Fault
 event_at nodes line = event_of nodes line (behind (codes "cql ") line)

@@ -1,6 +1,7 @@
 -- Which texts are scripts, and what the others are refused for.
 use Rattle.std.specs.Prelude.{◌≡◌, ◌≤◌, ◌⊎◌, ℕ, ◌+◌, ◌-◌, Bool, true, false, nat_lt, if◌then◌else◌, Option, None, Some, Result, Ok, Err, List, [], ◌∷◌, ◌++◌, length}
 use Rattle.cql_tokens.specs.declared.token.Token.{Token}
+use Rattle.cs_base.specs.declared.level.Level.{Level}
 use Rattle.cql_statement.specs.declared.statement.Statement.{Statement}
 use Rattle.cql_parser.specs.declared.error.ParseError.{ParseError}
 use Rattle.cql_parser.specs.declared.error.ParseError.TheVariants as cql
@@ -10,6 +11,8 @@ use Rattle.schema_book.specs.declared.error.Refused.{Refused}
 use Rattle.fault_script.specs.declared.script.Script.{Script}
 use Rattle.fault_script.specs.declared.script.ScriptEvent.{ScriptEvent}
 use Rattle.fault_script.specs.declared.script.ScriptEvent.TheVariants as event
+use Rattle.fault_script.specs.declared.script.EventLine.{EventLine}
+use Rattle.fault_script.specs.declared.script.EventLine.TheVariants as asks
 use Rattle.fault_script.specs.declared.script.Fault.{Fault}
 use Rattle.fault_script.specs.declared.script.Fault.TheVariants as fault
 use Rattle.fault_script.specs.declared.script.ScriptError.{ScriptError}
@@ -91,15 +94,16 @@ HeadGoes reader (Ok (says.Schema settings text)) read = (s : Statement) × IsOne
 HeadGoes reader (Ok (says.Run settings)) read = (schema : Book) × (schema_of settings reader.written ≡ Ok schema) × (read ≡ opened reader settings schema)
 HeadGoes reader (Err f) read = ⊥
 
--- what an event says in CQL is one statement
+-- the statement of an event is that of its text
 abbrev pub IsSaid : ScriptEvent → Type 0
 IsSaid (event.Put put) = Unit {0}
 IsSaid (event.Get get) = Unit {0}
-IsSaid (event.Cql request) = (s : Statement) × IsOneStatement request.text s
+IsSaid (event.Cql request) = IsOneStatement request.text request.statement
 IsSaid (event.Deliver place) = Unit {0}
 IsSaid (event.Drop place) = Unit {0}
 IsSaid (event.Settle count) = Unit {0}
 IsSaid (event.Clock node micros) = Unit {0}
+IsSaid (event.Mark node peer up) = Unit {0}
 IsSaid (event.Crash node outcome) = Unit {0}
 IsSaid (event.StopAt node call outcome) = Unit {0}
 IsSaid (event.FailAt node call) = Unit {0}
@@ -107,8 +111,14 @@ IsSaid (event.Restart node) = Unit {0}
 IsSaid (event.Flush node) = Unit {0}
 IsSaid (event.Merge node) = Unit {0}
 
-abbrev pub EventGoes : Reader → Result ScriptEvent Fault → Reader → Type 0
-EventGoes reader (Ok event) read = IsSaid event × (read ≡ with_event reader event)
+abbrev pub cql_event : ℕ → Level → List ℕ → Statement → ScriptEvent
+cql_event node level text s = event.Cql (record { node = node; level = level; text = text; statement = s })
+
+-- the text of a statement is read
+abbrev pub EventGoes : Reader → Result EventLine Fault → Reader → Type 0
+EventGoes reader (Ok (asks.Event event)) read = read ≡ with_event reader event
+EventGoes reader (Ok (asks.Cql node level text)) read =
+    (s : Statement) × IsOneStatement text s × (read ≡ with_event reader (cql_event node level text s))
 EventGoes reader (Err f) read = ⊥
 
 abbrev pub LineGoes : Stage → Reader → List ℕ → Reader → Type 0
@@ -155,24 +165,13 @@ HeadStops reader (Ok (says.Schema settings text)) e =
 HeadStops reader (Ok (says.Run settings)) e = schema_of settings reader.written ≡ Err e
 HeadStops reader (Err f) e = e ≡ first_refusal reader.stage reader.written (refusal f reader.number)
 
--- the CQL of an event is refused
-abbrev pub IsRefusedEvent : ℕ → ScriptEvent → ScriptError → Type 0
-IsRefusedEvent n (event.Put put) e = ⊥
-IsRefusedEvent n (event.Get get) e = ⊥
-IsRefusedEvent n (event.Cql request) e = IsRefusedCql n request.text e
-IsRefusedEvent n (event.Deliver place) e = ⊥
-IsRefusedEvent n (event.Drop place) e = ⊥
-IsRefusedEvent n (event.Settle count) e = ⊥
-IsRefusedEvent n (event.Clock node micros) e = ⊥
-IsRefusedEvent n (event.Crash node outcome) e = ⊥
-IsRefusedEvent n (event.StopAt node call outcome) e = ⊥
-IsRefusedEvent n (event.FailAt node call) e = ⊥
-IsRefusedEvent n (event.Restart node) e = ⊥
-IsRefusedEvent n (event.Flush node) e = ⊥
-IsRefusedEvent n (event.Merge node) e = ⊥
+-- the CQL of a line is refused
+abbrev pub IsRefusedEvent : ℕ → EventLine → ScriptError → Type 0
+IsRefusedEvent n (asks.Event event) e = ⊥
+IsRefusedEvent n (asks.Cql node level text) e = IsRefusedCql n text e
 
-abbrev pub EventStops : Reader → Result ScriptEvent Fault → ScriptError → Type 0
-EventStops reader (Ok event) e = IsRefusedEvent reader.number event e
+abbrev pub EventStops : Reader → Result EventLine Fault → ScriptError → Type 0
+EventStops reader (Ok line) e = IsRefusedEvent reader.number line e
 EventStops reader (Err f) e = e ≡ refusal f reader.number
 
 abbrev pub LineStops : Stage → Reader → List ℕ → ScriptError → Type 0

@@ -3,16 +3,16 @@
 ghost use Rattle.std.specs.Prelude.{◌≡◌, ◌≤◌, ◌<◌, ◌&&◌, ◌∷◌, [], IfOk, codes, length};
 ghost use Rattle.std.specs.Str.{bytes_eq};
 ghost use Rattle.fault_script.specs.Lines.{is_number as is_number_word, is_signed_number as is_signed_word, put_line as put_line_of, get_line as get_line_of, message_line as message_line_of, settle_line as settle_line_of, word_line as word_line_of, event_line as event_line_of, cql_line as cql_line_of, event_at as event_at_of};
-ghost use Rattle.fault_script.specs.Lines.{named_node as named_node_of, named_pair as named_pair_of, node_line as node_line_of, pair_line as pair_line_of, clock_line as clock_line_of, crash_line as crash_line_of, stop_line as stop_line_of, fail_line as fail_line_of, node_event as node_event_of};
+ghost use Rattle.fault_script.specs.Lines.{named_node as named_node_of, named_pair as named_pair_of, node_line as node_line_of, pair_line as pair_line_of, clock_line as clock_line_of, named_peers as named_peers_of, mark_line as mark_line_of, crash_line as crash_line_of, stop_line as stop_line_of, fail_line as fail_line_of, node_event as node_event_of};
 ghost use Rattle.fault_script.specs.Words.{texts_of};
 ghost use Rattle.fault_script.specs.Reads.{LineGives};
 
 use crate::lines::{behind, first_word, words};
 use crate::numbers::{
-    is_number, is_signed_number, level_of, long_value, node_of, number_within, outcome_of,
+    is_number, is_signed_number, level_of, long_value, node_of, number_within, outcome_of, up_of,
 };
 use crate::script::{
-    CqlRequest, Fault, GetRequest, LineError, MessagePlace, PutRequest, ScriptEvent,
+    EventLine, Fault, GetRequest, LineError, MessagePlace, PutRequest, ScriptEvent,
 };
 use cs_base::{Micros, NodeId, Text};
 use std::alloc::Global;
@@ -194,6 +194,42 @@ fn clock_line(nodes: u8, words: &[&str]) -> Result<ScriptEvent, Fault>
     Ok(ScriptEvent::Clock(node, Micros::new(micros)))
 }
 
+/// The node that the first word names, and the other one that the second names.
+fn named_peers(nodes: u8, node: &str, peer: &str) -> Result<(NodeId, NodeId), Fault>
+    requires some { 1 ≤ nodes }
+    requires few { nodes ≤ 7 }
+    ensures { result ≡ named_peers_of nodes node.now peer.now }
+{
+    if !is_number(node) || !is_number(peer) {
+        return Err(Fault::Line);
+    }
+    let Some(node) = node_of(nodes, node) else {
+        return Err(Fault::Number);
+    };
+    let Some(peer) = node_of(nodes, peer) else {
+        return Err(Fault::Number);
+    };
+    if node == peer {
+        return Err(Fault::Number);
+    }
+    Ok((node, peer))
+}
+
+fn mark_line(nodes: u8, words: &[&str]) -> Result<ScriptEvent, Fault>
+    requires some { 1 ≤ nodes }
+    requires few { nodes ≤ 7 }
+    ensures { result ≡ mark_line_of nodes (texts_of words.now) }
+{
+    let [node, peer, state] = words else {
+        return Err(Fault::Line);
+    };
+    let Some(up) = up_of(state) else {
+        return Err(Fault::Line);
+    };
+    let (node, peer) = named_peers(nodes, node, peer)?;
+    Ok(ScriptEvent::Mark(node, peer, up))
+}
+
 fn crash_line(nodes: u8, words: &[&str]) -> Result<ScriptEvent, Fault>
     requires some { 1 ≤ nodes }
     requires few { nodes ≤ 7 }
@@ -233,7 +269,7 @@ fn fail_line(nodes: u8, words: &[&str]) -> Result<ScriptEvent, Fault>
     Ok(ScriptEvent::FailAt(node, call as u32))
 }
 
-/// What a line does that begins with this word and names a node: to the node, its clock or its store.
+/// What a line does that begins with this word and names a node: to the node, its clock, its marks or its store.
 fn node_event(nodes: u8, word: &str, words: &[&str]) -> Result<ScriptEvent, Fault>
     requires some { 1 ≤ nodes }
     requires few { nodes ≤ 7 }
@@ -241,6 +277,7 @@ fn node_event(nodes: u8, word: &str, words: &[&str]) -> Result<ScriptEvent, Faul
 {
     match word {
         "clock" => clock_line(nodes, words),
+        "mark" => mark_line(nodes, words),
         "crash" => crash_line(nodes, words),
         "stopat" => stop_line(nodes, words),
         "failat" => fail_line(nodes, words),
@@ -279,8 +316,8 @@ fn event_line(alloc: Global, nodes: u8, words: &[&str]) -> Result<ScriptEvent, L
     }
 }
 
-/// What a line `cql` does, of which the node, the level and the statement are left.
-fn cql_line(alloc: Global, nodes: u8, text: &str) -> Result<ScriptEvent, LineError>
+/// What a line `cql` says, of which the node, the level and the statement are left.
+fn cql_line(alloc: Global, nodes: u8, text: &str) -> Result<EventLine, LineError>
     requires some { 1 ≤ nodes }
     requires few { nodes ≤ 7 }
     ensures { LineGives result (cql_line_of nodes text.now) }
@@ -301,11 +338,11 @@ fn cql_line(alloc: Global, nodes: u8, text: &str) -> Result<ScriptEvent, LineErr
         return Err(LineError::Fault(Fault::Number));
     };
     let text = Text::from_str(alloc, statement)?;
-    Ok(ScriptEvent::Cql(CqlRequest { node, level, text }))
+    Ok(EventLine::Cql(node, level, text))
 }
 
-/// What a line does, at so many nodes.
-pub fn event_at(alloc: Global, nodes: u8, line: &[u8]) -> Result<ScriptEvent, LineError>
+/// What a line says, at so many nodes.
+pub fn event_at(alloc: Global, nodes: u8, line: &[u8]) -> Result<EventLine, LineError>
     requires line { 0 < length line.now }
     requires some { 1 ≤ nodes }
     requires few { nodes ≤ 7 }
@@ -315,7 +352,7 @@ pub fn event_at(alloc: Global, nodes: u8, line: &[u8]) -> Result<ScriptEvent, Li
         return cql_line(alloc, nodes, text);
     }
     match words(alloc, line)? {
-        Some(words) => event_line(alloc, nodes, &words),
+        Some(words) => Ok(EventLine::Event(event_line(alloc, nodes, &words)?)),
         None => Err(LineError::Fault(Fault::Line)),
     }
 }

@@ -17,7 +17,7 @@ pub fn events_are_at_nodes()
     ensures { EventsAreAtNodes }
 {}
 
-/// The text of each line `cql` is one statement.
+/// The statement of each line `cql` is the one of its text.
 pub fn statements_are_read()
     ensures { StatementsAreRead }
 {}

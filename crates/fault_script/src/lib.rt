@@ -5,10 +5,10 @@
 //! `script.kv`, then, where they are wanted, `grace <seconds>` and `expiry <seconds>`, then any number of
 //! `schema <statement>`, and `run`. Then come events: `put <node> <level> <key> <row> <timestamp> <value>`,
 //! `get <node> <level> <key>`, `cql <node> <level> <statement>`, `deliver <from> <to> <number>`,
-//! `drop <from> <to> <number>`, `settle <count>`, `clock <node> <micros>`, `crash <node> <outcome>`,
-//! `stopat <node> <call> <outcome>`, `failat <node> <call>`, `restart <node>`, `flush <node>` and `merge <node>`. Nodes are
-//! numbers from 0 on, calls of a node's store from 1 on, levels Cassandra's names in capitals, and outcomes `kept`, `lost` and
-//! `torn`. A statement is the rest of its line.
+//! `drop <from> <to> <number>`, `settle <count>`, `clock <node> <micros>`, `mark <node> <peer> up` or `down`,
+//! `crash <node> <outcome>`, `stopat <node> <call> <outcome>`, `failat <node> <call>`, `restart <node>`, `flush <node>` and
+//! `merge <node>`. Nodes are numbers from 0 on, calls of a node's store from 1 on, levels Cassandra's names in capitals, and
+//! outcomes `kept`, `lost` and `torn`. A statement is the rest of its line.
 #![tactic(auto)]
 
 mod error;

@@ -1,14 +1,16 @@
 //! The lines of a script, and the words of a line.
 
-ghost use Rattle.std.specs.Prelude.{◌≡◌, ◌<◌, ◌∷◌, ◌==◌, length, filter, not, true, false, Some, None, IfOk, MatchOption, option_copied};
+ghost use Rattle.std.specs.Prelude.{◌≡◌, ◌<◌, ◌∷◌, ◌++◌, [], length, true, false, Some, None, IfOk, OnOk, MatchOption, option_copied};
 ghost use Rattle.std.specs.Option.{option_map};
-ghost use Rattle.std.specs.List.{slice_split};
-ghost use Rattle.fault_script.specs.Lines.{lines_of, is_skipped as is_skipped_line, is_well_formed as is_well_formed_line, words_of, without_spaces as without_spaces_of, first_word as first_word_of, behind as behind_of};
+ghost use Rattle.fault_script.specs.Lines.{lines_of, is_skipped as is_skipped_line, is_well_formed as is_well_formed_line, some_of, words_in, words_of, without_spaces as without_spaces_of, first_word as first_word_of, behind as behind_of};
 ghost use Rattle.fault_script.specs.Words.{texts_of};
 
 use memchr::memchr;
 use std::alloc::{AllocError, Global};
 use std::str;
+
+/// Room for the words of most lines.
+const USUAL_WORDS: usize = 8;
 
 /// The first line of a text that isn't empty, and the text behind it.
 pub fn first_line(text: &[u8]) -> (&[u8], &[u8])
@@ -32,19 +34,6 @@ pub fn is_skipped(line: &[u8]) -> bool
     }
 }
 
-/// The pieces of a text between its spaces.
-fn pieces(alloc: Global, text: &str) -> Result<Vec<&str>, AllocError>
-    ensures { IfOk result (λ v. texts_of v.items ≡ slice_split (λ b. b == 32) text.now) }
-{
-    text.split(' ').collect(alloc)
-}
-
-fn remove_empty(words: &mut Vec<&str>)
-    ensures { words.new.items ≡ filter (λ w. not (length w.now == 0)) words.old.items }
-{
-    words.retain(|word| !word.is_empty());
-}
-
 /// The line as a text, where it is one and has no space at an end.
 fn well_formed(line: &[u8]) -> Option<&str>
     requires { 0 < length line.now }
@@ -59,17 +48,42 @@ fn well_formed(line: &[u8]) -> Option<&str>
     Some(text)
 }
 
+/// Adds a word, if it is one.
+fn push_word<'a>(words: &mut Vec<&'a str>, word: &'a str) -> Result<(), AllocError>
+    ensures { OnOk result (texts_of words.new.items ≡ texts_of words.old.items ++ some_of (word.now ∷ [])) }
+{
+    if !word.is_empty() {
+        words.push(word)?;
+    }
+    Ok(())
+}
+
+/// The words that spaces separate.
+fn words_between(alloc: Global, text: &str) -> Result<Vec<&str>, AllocError>
+    ensures { IfOk result (λ words. texts_of words.items ≡ words_in text.now) }
+{
+    let mut words = Vec::with_capacity(alloc, USUAL_WORDS)?;
+    let bytes = text.as_bytes();
+    let mut begin = 0;
+    for at in 0..bytes.len() {
+        if bytes[at] == b' ' {
+            push_word(&mut words, &text[begin..at])?;
+            begin = at + 1;
+        }
+    }
+    push_word(&mut words, &text[begin..])?;
+    Ok(words)
+}
+
 /// The words of a line, or None where it is no text or has a space at an end.
 pub fn words(alloc: Global, line: &[u8]) -> Result<Option<Vec<&str>>, AllocError>
     requires { 0 < length line.now }
     ensures { IfOk result (λ words. option_map (λ v. texts_of v.items) words ≡ words_of line.now) }
 {
-    let Some(text) = well_formed(line) else {
-        return Ok(None);
-    };
-    let mut words = pieces(alloc, text)?;
-    remove_empty(&mut words);
-    Ok(Some(words))
+    match well_formed(line) {
+        Some(text) => Ok(Some(words_between(alloc, text)?)),
+        None => Ok(None),
+    }
 }
 
 /// The text without the spaces in front of it.
@@ -89,6 +103,7 @@ pub fn first_word(text: &str) -> Option<(&str, &str)>
 
 /// What stands behind this beginning of a line and the spaces that follow it, where the line begins so and the rest is a
 /// text.
+#[inline]
 pub fn behind<'a>(line: &'a [u8], beginning: &[u8]) -> Option<&'a str>
     ensures { option_copied result ≡ behind_of beginning.now line.now }
 {

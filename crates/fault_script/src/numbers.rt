@@ -1,9 +1,9 @@
-//! The numbers of a script, its nodes, its levels and its outcomes of crashes.
+//! The numbers of a script, its nodes, its levels, its marks and its outcomes of crashes.
 
 ghost use Rattle.std.specs.Prelude.{◌≡◌, ◌≤◌, true, false, IsTrue, IfSome, MatchOption};
 ghost use Rattle.std.specs.Char.{is_ascii_digit};
 ghost use Rattle.std.specs.List.{list_all};
-ghost use Rattle.fault_script.specs.Lines.{is_number as is_number_word, is_signed_number as is_signed_word, within as within_bounds, number_within as number_of, node_of as node_of_word, level_of as level_of_word, outcome_of as outcome_of_word, signed_value, is_long_word};
+ghost use Rattle.fault_script.specs.Lines.{is_number as is_number_word, is_signed_number as is_signed_word, within as within_bounds, number_within as number_of, node_of as node_of_word, level_of as level_of_word, outcome_of as outcome_of_word, up_of as up_of_word, signed_value, is_long_word};
 
 use cs_base::{Level, NodeId};
 use cs_store::Outcome;
@@ -98,6 +98,17 @@ pub fn outcome_of(word: &str) -> Option<Outcome>
         "kept" => Some(Outcome::Kept),
         "lost" => Some(Outcome::Lost),
         "torn" => Some(Outcome::Torn),
+        _ => None,
+    }
+}
+
+/// Whether a mark says that the peer is up, by its word.
+pub fn up_of(word: &str) -> Option<bool>
+    ensures { result ≡ up_of_word word.now }
+{
+    match word {
+        "up" => Some(true),
+        "down" => Some(false),
         _ => None,
     }
 }

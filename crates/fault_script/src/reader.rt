@@ -10,10 +10,10 @@ use crate::head::head_line;
 use crate::lines::{first_line, is_skipped};
 use crate::schema_lines::SchemaLines;
 use crate::script::{
-    Fault, HeadLine, HeadStage, LineError, Script, ScriptError, ScriptEvent, ScriptEvents,
-    Settings, Texts,
+    CqlRequest, EventLine, Fault, HeadLine, HeadStage, LineError, Script, ScriptError, ScriptEvent,
+    ScriptEvents, Settings, Texts,
 };
-use crate::statements::{StatementError, check_statement, read_statement};
+use crate::statements::{StatementError, line_statement, read_statement};
 use cs_base::{Items, Text};
 use schema_book::Schema;
 use std::alloc::Global;
@@ -164,15 +164,24 @@ impl Reader {
         }
     }
 
-    /// Adds an event, of which CQL has to be a statement.
-    fn take_event(&mut self, alloc: Global, event: ScriptEvent) -> Result<(), ParseError>
-        ensures ok { OnOk result (EventGoes self.old (Ok event) self.new) }
+    /// Adds what a line asks for, of which CQL has to be a statement.
+    fn take_event(&mut self, alloc: Global, line: EventLine) -> Result<(), ParseError>
+        ensures ok { OnOk result (EventGoes self.old (Ok line) self.new) }
         ensures number { OnOk result (self.new.number ≡ self.old.number) }
-        ensures err { IfErr result (Fails (EventStops self.old (Ok event))) }
+        ensures err { IfErr result (Fails (EventStops self.old (Ok line))) }
     {
-        if let ScriptEvent::Cql(request) = &event {
-            check_statement(alloc, request.text.as_str(), self.number)?;
-        }
+        let event = match line {
+            EventLine::Event(event) => event,
+            EventLine::Cql(node, level, text) => {
+                let statement = line_statement(alloc, text.as_str(), self.number)?;
+                ScriptEvent::Cql(CqlRequest {
+                    node,
+                    level,
+                    text,
+                    statement,
+                })
+            }
+        };
         self.events.push(event)?;
         Ok(())
     }
@@ -195,7 +204,7 @@ impl Reader {
             },
             Stage::Events(opening) => {
                 match event_at(alloc, opening.settings.ring.nodes(), line) {
-                    Ok(event) => self.take_event(alloc, event),
+                    Ok(line) => self.take_event(alloc, line),
                     Err(LineError::Fault(fault)) => {
                         Err(ParseError::Script(refusal(fault, self.number)))
                     }
@@ -245,7 +254,7 @@ impl Reader {
 /// lines.
 ///
 /// Lines are read one after another, each once. The statements of the schema are kept until `run`, and make it together;
-/// one that it refuses counts as refused at its own line. Of a statement in a line `cql` the text alone is kept.
+/// one that it refuses counts as refused at its own line.
 pub fn parse(alloc: Global, text: &[u8]) -> Result<Script, ParseError>
     ensures { IsReadAs text.now result }
 {

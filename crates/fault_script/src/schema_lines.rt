@@ -1,6 +1,6 @@
 //! The statements of a script's schema.
 
-ghost use Rattle.std.specs.Prelude.{◌≡◌, ◌<◌, ◌++◌, ◌∷◌, [], Some, OnOk, OnErr, IfOk, IfErr, length, slice_index};
+ghost use Rattle.std.specs.Prelude.{◌≡◌, ◌<◌, ◌++◌, ◌∷◌, [], Some, OnOk, OnErr, IfOk, IfErr, length, slice_index, vec_len, vec_capacity};
 ghost use Rattle.fault_script.specs.Script.{head_refusal, schema_of};
 ghost use Rattle.fault_script.specs.Written.{no_statements, with_line, line_of as line_of_statement};
 ghost use Rattle.fault_script.specs.Reads.{Fails, Gives};
@@ -10,7 +10,7 @@ use crate::script::{HeadStage, ScriptError, Settings, Texts};
 use cql_statement::{Statement, Statements};
 use cs_base::{Items, Text};
 use schema_book::{Refused, Schema, SchemaError, refusals_are_first};
-use std::alloc::Global;
+use std::alloc::{AllocError, Global};
 use std::marker::Model;
 
 /// The statements of a schema, with their texts and the numbers of their lines.
@@ -32,6 +32,17 @@ impl Model for SchemaLines {
     ghost invariant = { λ a. length a.numbers.items ≡ length a.statements };
 }
 
+/// Room for a number and a text more.
+fn reserve_line(numbers: &mut Vec<u64>, texts: &mut Vec<Text>) -> Result<(), AllocError>
+    ensures numbers { numbers.new.items ≡ numbers.old.items }
+    ensures texts { texts.new.items ≡ texts.old.items }
+    ensures number { OnOk result (vec_len numbers.new < vec_capacity numbers.new) }
+    ensures text { OnOk result (vec_len texts.new < vec_capacity texts.new) }
+{
+    numbers.reserve(1)?;
+    texts.reserve(1)
+}
+
 impl SchemaLines {
     /// No statements, without an allocation.
     pub fn new(alloc: Global) -> SchemaLines
@@ -50,8 +61,7 @@ impl SchemaLines {
         ensures err { OnErr result (self.new ≡ self.old) }
         ensures memory { IfErr result (λ e. e ≡ ParseError.NoMemory) }
     {
-        self.numbers.reserve(1)?;
-        self.texts.reserve(1)?;
+        reserve_line(&mut self.numbers, &mut self.texts)?;
         self.statements.push(statement)?;
         self.numbers.push_reserved(number);
         self.texts.push_reserved(text);

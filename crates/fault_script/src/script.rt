@@ -3,6 +3,7 @@
 ghost use Rattle.std.specs.Prelude.{◌≡◌};
 ghost use Rattle.fault_script.specs.declared.script.LineError.TheVariants.{Fault as LineFault, NoMemory as LineMemory};
 
+use cql_statement::Statement;
 use cs_base::{Items, Level, Micros, NodeId, Text};
 use cs_store::Outcome;
 use schema_book::Schema;
@@ -46,6 +47,8 @@ pub enum ScriptEvent {
     Settle(u32),
     /// Sets a node's clock, which tells this time from then on, and gives the node a step.
     Clock(NodeId, Micros),
+    /// Tells a node that another one is up, or that it is down.
+    Mark(NodeId, NodeId, bool),
     /// Stops a node between two steps. This is what becomes of the writes that it has not synced.
     Crash(NodeId, Outcome),
     /// Stops a node at this call of its store, from 1 on, when the call's effect is not synced yet.
@@ -80,12 +83,23 @@ pub struct GetRequest {
     pub key: Text,
 }
 
-/// A line `cql`: a statement as it is written.
+/// A line `cql`: a statement.
 #[derive(Debug, Drop)]
 pub struct CqlRequest {
     pub node: NodeId,
     pub level: Level,
+    /// As it is written.
     pub text: Text,
+    /// As it is read.
+    pub statement: Statement,
+}
+
+/// What a line after `run` says before its statement is read.
+#[derive(Debug, Drop)]
+pub enum EventLine {
+    Event(ScriptEvent),
+    /// At a node and a level the statement of this text.
+    Cql(NodeId, Level, Text),
 }
 
 /// The message that is this one, from 1 on, of all that one node ever sends to another. There is no message 0.

@@ -1,7 +1,6 @@
 //! The statements of a script.
 
-ghost use Rattle.std.specs.Prelude.{◌≡◌, IfOk, IfErr, OnOk, MatchResult, ℕ};
-ghost use Rattle.cql_statement.specs.declared.statement.Statement.{Statement as SpecStatement};
+ghost use Rattle.std.specs.Prelude.{◌≡◌, IfOk, IfErr, MatchResult, ℕ};
 ghost use Rattle.fault_script.specs.Script.{IsOneStatement, offset_of as offset_in, IsRefusedAt, IsRefusedCql};
 ghost use Rattle.fault_script.specs.Reads.{Fails, IsRefusal};
 
@@ -43,13 +42,13 @@ pub fn read_statement(alloc: Global, text: &str) -> Result<Statement, StatementE
     }
 }
 
-/// Whether a text is a statement, and else the refusal of the line of this number, in which it stands.
-pub fn check_statement(alloc: Global, text: &str, line: u64) -> Result<(), ParseError>
-    ensures ok { OnOk result ((s : SpecStatement) × IsOneStatement text.now s) }
+/// The statement of a text, or the refusal of the line of this number, in which it stands.
+pub fn line_statement(alloc: Global, text: &str, line: u64) -> Result<Statement, ParseError>
+    ensures ok { IfOk result (IsOneStatement text.now) }
     ensures err { IfErr result (Fails (IsRefusedCql line text.now)) }
 {
     match read_statement(alloc, text) {
-        Ok(_) => Ok(()),
+        Ok(statement) => Ok(statement),
         Err(StatementError::At(at)) => Err(ParseError::Script(ScriptError::Cql(line, at))),
         Err(StatementError::NoMemory) => Err(ParseError::NoMemory),
     }

@@ -37,6 +37,19 @@ fn word_in(
     }
 }
 
+/// Bytes and others behind them. Where there are none before, they are the others' own.
+fn joined(alloc: Global, front: &[u8], back: Bytes) -> Result<Bytes, AllocError>
+    ensures { IfOk result (λ both. both ≡ front.now ++ back) }
+{
+    if front.is_empty() {
+        return Ok(back);
+    }
+    let mut bytes = Vec::with_capacity(alloc, front.len() + back.as_slice().len())?;
+    bytes.extend_from_slice(front)?;
+    bytes.extend_from_slice(back.as_slice())?;
+    Ok(Bytes::from_vec(bytes))
+}
+
 /// The order bytes of the clustering columns that are fixed, from the first on.
 pub(crate) fn prefix_bytes(
     alloc: Global,
@@ -45,7 +58,7 @@ pub(crate) fn prefix_bytes(
 ) -> Result<Bytes, AllocError>
     ensures { IfOk result (λ prefix. prefix ≡ prefix_bytes_of columns.now restrictions.now) }
 {
-    let mut prefix = Vec::new(alloc);
+    let mut prefix = Bytes::new(alloc);
     for (place, column) in columns.iter().enumerate() {
         if is_partition(column.kind) {
             continue;
@@ -54,9 +67,9 @@ pub(crate) fn prefix_bytes(
             break;
         }
         let word = word_in(alloc, column.is_descending, fixing(restrictions, place))?;
-        prefix.extend_from_slice(word.as_slice())?;
+        prefix = joined(alloc, prefix.as_slice(), word)?;
     }
-    Ok(Bytes::from_vec(prefix))
+    Ok(prefix)
 }
 
 /// Whether the rows of a partition stand by falling values of the column at this place.
@@ -108,11 +121,7 @@ fn bytes_at(
 ) -> Result<Bytes, AllocError>
     ensures { IfOk result (λ bytes. bytes ≡ prefix.now ++ order_word falls value.now) }
 {
-    let word = word_of(alloc, falls, value)?;
-    let mut bytes = Vec::with_capacity(alloc, prefix.len() + word.as_slice().len())?;
-    bytes.extend_from_slice(prefix)?;
-    bytes.extend_from_slice(word.as_slice())?;
-    Ok(Bytes::from_vec(bytes))
+    joined(alloc, prefix, word_of(alloc, falls, value)?)
 }
 
 /// Where the rows begin that have these bytes in front and that the relation lets through.

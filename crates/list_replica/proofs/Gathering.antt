@@ -1,5 +1,5 @@
 -- Changes staged by partition.
-use Rattle.std.proofs.Common.{◌≡◌, ◌≢◌, ◌↔◌, ◌⊎◌, ℕ, ◌+◌, ◌^◌, ◌≤◌, ◌<◌, length, get_or, take, drop, take-append-drop, append-nil, inl, inr, Option, Some, None, List, [], ◌∷◌, ◌++◌, Contains, refl, sym, ◌∙◌, ap, subst, append_assoc}
+use Rattle.std.proofs.Common.{◌≡◌, ◌≢◌, ◌↔◌, ◌⊎◌, ℕ, ◌+◌, ◌^◌, ◌≤◌, ◌<◌, length, get_or, take, drop, take-append-drop, append-nil, inl, inr, Bool, true, false, ◌&&◌, Option, Some, None, List, [], ◌∷◌, ◌++◌, Contains, refl, sym, ◌∙◌, ap, subst, append_assoc}
 use Rattle.std.specs.Prelude.{map, IsSomeAnd}
 use Rattle.std.specs.BTreeMap.{get}
 use Rattle.std.proofs.lemmas.List.{drop_more}
@@ -17,7 +17,7 @@ use Rattle.row_change.specs.declared.entry.LogItem.{LogItem}
 use Rattle.row_change.specs.declared.entry.LogItem.TheVariants.{Data, Paxos, HintAdd, HintGone, Ceiling, Mark, Purge}
 use Rattle.durable_state.specs.Taking.{IsTouched, InOne}
 use Rattle.list_replica.specs.declared.staging.Staged.{Staged}
-use Rattle.list_replica.specs.Staging.{Map, mutation_of, mutations, Brings, IsStagedAt, AreOnce, Stages, StagesAt, AreReady, held_at, IsWithin, IsPast, StaysWithin, GrowsPast, AllStayWithin, IsFirstPast, Comes, AllCome}
+use Rattle.list_replica.specs.Staging.{Map, mutation_of, mutations, Brings, IsStagedAt, AreOnce, Stages, StagesAt, AreReady, FitsAt, AllFit, held_at, IsMergedWithin, IsWithin, IsPast, StaysWithin, GrowsPast, AllStayWithin, IsFirstPast, Comes, AllCome}
 use Rattle.list_replica.specs.Stores.{stored_if, stored_at, IsReadyAt}
 
 -- ---- what items bring
@@ -155,6 +155,24 @@ ready_more old new front s rest once ready here others t k = elim (Contains-appe
   ]
 ]
 
+pub both_true : (a b : Bool) → (a && b) ≡ true → (a ≡ true) × (b ≡ true)
+both_true true b t = (refl, t)
+both_true false b t = cc
+
+-- so does what fits
+fit_still : (old new : Map) (s : Staged) → get partition_cmp new s.partition ≡ get partition_cmp old s.partition → FitsAt old s.partition s.changes → FitsAt new s.partition s.changes
+fit_still old new s same fit = subst (λ (o : Option Content). IsSomeAnd o (λ content. IsMergedWithin (changes_in content) s.changes)) (sym same) fit
+
+pub fit_more : (old new : Map) (front : List Staged) (s : Staged) (rest : List Staged) → AreOnce (front ++ s ∷ rest) → AllFit old front → FitsAt new s.partition s.changes
+    → ((q : Partition) → q ≢ s.partition → get partition_cmp new q ≡ get partition_cmp old q) → AllFit new (front ++ s ∷ [])
+fit_more old new front s rest once fit here others t k = elim (Contains-append_cases front (s ∷ []) t k) [
+  | inl was ↦ fit_still old new t (others t.partition (apart_once front s rest once t was)) (fit t was)
+  | inr last ↦ elim (contains_cases s [] t last) [
+    | inl e ↦ subst (λ (u : Staged). FitsAt new u.partition u.changes) e here
+    | inr none ↦ absurd (contains_nil t none)
+  ]
+]
+
 pub ready_rest : (old new : Map) (front : List Staged) (s : Staged) (rest : List Staged) → AreOnce (front ++ s ∷ rest) → AreReady old (s ∷ rest) → ((q : Partition) → q ≢ s.partition → get partition_cmp new q ≡ get partition_cmp old q)
     → AreReady new rest
 ready_rest old new front s rest once ready others t k = ready_still old new t (others t.partition (apart_behind front s rest once t k)) (ready t (contains_there s rest t k))
@@ -174,6 +192,21 @@ ready_found contents s content at ready = subst (λ (o : Option Content). IsSome
 
 pub not_ready : (contents : Map) (s : Staged) → None ≡ get partition_cmp contents s.partition → IsReadyAt contents s.partition s.changes → ⊥
 not_ready contents s at ready = subst (λ (o : Option Content). IsSomeAnd o (λ c. IsReadyFor c s.changes)) (sym at) ready
+
+fits_if : (o : Option Content) (changes : List Held) → IsSomeAnd o (λ content. IsMergedWithin (changes_in content) changes) → IsMergedWithin (map held_of (stored_if o)) changes
+fits_if None changes fit = absurd fit
+fits_if (Some content) changes fit = fit
+
+-- where all that is staged fits, each partition that the items touch stays within
+pub all_fit : (contents : Map) (items : List LogItem) (staged : List Staged) → Stages items items staged → AllFit contents staged → AllStayWithin contents staged items
+all_fit contents items staged h fit p t =
+    let at = h.all p t in
+    record {
+      changes = at.0;
+      there = at.1;
+      of = at.2;
+      within = fits_if (get partition_cmp contents at.0.partition) at.0.changes (fit at.0 at.1);
+    }
 
 -- ---- the partitions of the items so far
 

@@ -255,12 +255,12 @@ entries_on old new entry front so_far e = ap entries_of e ∙ entries_push old (
 pub items_from : (r r' q : Replay) (items : List LogItem) → r'.contents ≡ r.contents → r'.ceiling ≡ r.ceiling → r'.rows ≡ r.rows → r'.hints ≡ r.hints → r'.numbers ≡ r.numbers → r'.marks ≡ r.marks → ShowsItems items r' q → ShowsItems items r q
 items_from r r' q items e f g h i j more d d' s commits = more d d' (shows_as r r' d e f g h i j s) commits
 
-pub sound_from : (r : Replay) (m : Memtable) → m.contents ≡ r.contents → m.committed.items ≡ replayed r → Shows r (kept_by (replayed r)) → IsSound m
-sound_from r m e f s = record {
-  ordered = subst (λ (c : Map). IsOrdered partition_cmp c) (sym e) s.ordered;
+pub sound_from : (r : Replay) (m : Memtable) → IsOrdered partition_cmp m.contents → all_of m.contents.entries ≡ all_of r.contents.entries → m.committed.items ≡ replayed r → Shows r (kept_by (replayed r)) → IsSound m
+sound_from r m ordered e f s = record {
+  ordered = ordered;
   content = λ x.
       subst (λ (es : List Entered). Contains (all_of m.contents.entries) x ↔ Contains (kept_by es).content x) (sym f)
-      (subst (λ (c : Map). Contains (all_of c.entries) x ↔ Contains (kept_by (replayed r)).content x) (sym e) (s.content x));
+      (subst (λ (l : List Stored). Contains l x ↔ Contains (kept_by (replayed r)).content x) (sym e) (s.content x));
 }
 
 pub kept_from_all : (r : Replay) (m : Memtable) (kept : Kept) → m.committed.items ≡ replayed r → Shows r (kept_by (replayed r)) → ((d : Durable) → Shows r d → IsKeptOf d kept) → IsKeptOf (kept_in m) kept

@@ -1,5 +1,5 @@
 -- The changes of an entry, partition by partition.
-use Rattle.std.specs.Prelude.{◌≡◌, ◌≢◌, ◌⊎◌, ℕ, ◌<◌, ◌≤◌, ◌^◌, Option, Some, None, List, [], ◌∷◌, ◌++◌, map, Contains}
+use Rattle.std.specs.Prelude.{◌≡◌, ◌≢◌, ◌⊎◌, ℕ, ◌<◌, ◌≤◌, ◌^◌, Option, Some, None, List, [], ◌∷◌, ◌++◌, map, Contains, IsSomeAnd}
 use Rattle.std.specs.List.{filter_map}
 use Rattle.std.specs.BTreeMap.{BTreeMap, get}
 use Rattle.changes.specs.declared.Held.{Held}
@@ -10,7 +10,7 @@ use Rattle.changes.specs.Lengths.{changes_length}
 use Rattle.changes.specs.Order.{partition_cmp}
 use Rattle.changes.specs.Places.{AreInOrder}
 use Rattle.partition_content.specs.Arrivals.{ComeAt, held_of}
-use Rattle.partition_content.specs.Partition.{Partition as Content}
+use Rattle.partition_content.specs.Partition.{Partition as Content, changes_in}
 use Rattle.row_change.specs.declared.entry.LogItem.{LogItem}
 use Rattle.row_change.specs.declared.entry.LogItem.TheVariants.{Data, Paxos, HintAdd, HintGone, Ceiling, Mark, Purge}
 use Rattle.durable_state.specs.Taking.{IsTouched, InOne}
@@ -70,13 +70,29 @@ AreReady contents staged = (s : Staged) → Contains staged s → IsReadyAt cont
 abbrev pub held_at : Map → Partition → List Held
 held_at contents p = map held_of (stored_at contents p)
 
--- with these, what is held of the partition has at most 16 MiB as it is stored
+-- the content of both has at most 16 MiB as it is stored
+abbrev pub IsMergedWithin : List Held → List Held → Type 0
+IsMergedWithin held changes = (merged : List Held) → IsMergeOf merged held changes → AreInOrder merged → changes_length merged ≤ 2 ^ 24
+
+-- or it has more
+abbrev pub IsMergedPast : List Held → List Held → Type 0
+IsMergedPast held changes = (merged : List Held) → IsMergeOf merged held changes → AreInOrder merged → 2 ^ 24 < changes_length merged
+
+-- with these, what is held of the partition has at most 16 MiB
 abbrev pub IsWithin : Map → Staged → Type 0
-IsWithin contents s = (merged : List Held) → IsMergeOf merged (held_at contents s.partition) s.changes → AreInOrder merged → changes_length merged ≤ 2 ^ 24
+IsWithin contents s = IsMergedWithin (held_at contents s.partition) s.changes
+
+-- the same of a partition that is there
+abbrev pub FitsAt : Map → Partition → List Held → Type 0
+FitsAt contents p changes = IsSomeAnd (get partition_cmp contents p) (λ content. IsMergedWithin (changes_in content) changes)
+
+-- it is so of each
+abbrev pub AllFit : Map → List Staged → Type 0
+AllFit contents staged = (s : Staged) → Contains staged s → FitsAt contents s.partition s.changes
 
 -- or it has more
 abbrev pub IsPast : Map → Staged → Type 0
-IsPast contents s = (merged : List Held) → IsMergeOf merged (held_at contents s.partition) s.changes → AreInOrder merged → 2 ^ 24 < changes_length merged
+IsPast contents s = IsMergedPast (held_at contents s.partition) s.changes
 
 pub record StaysWithin (contents : Map) (staged : List Staged) (p : Partition) : Type 0 where
   pub changes : Staged

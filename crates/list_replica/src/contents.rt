@@ -1,6 +1,6 @@
 //! What is held, by partition.
 
-ghost use Rattle.std.specs.Prelude.{◌≡◌, ◌≢◌, ◌↔◌, [], ◌∷◌, ◌++◌, None, Contains, IsTrue, IfOk, OnOk};
+ghost use Rattle.std.specs.Prelude.{◌≡◌, ◌≢◌, ◌↔◌, false, [], ◌∷◌, ◌++◌, None, Contains, IsTrue, IfOk, OnOk};
 ghost use Rattle.std.specs.BTreeMap.{IsOrdered, get};
 ghost use Rattle.std.specs.List.Sorted.{IsStrictlySortedBy};
 ghost use Rattle.cs_base.specs.Ring.{in_range};
@@ -8,13 +8,14 @@ ghost use Rattle.changes.specs.declared.Held.{Held as held_value};
 ghost use Rattle.changes.specs.declared.Partition.{Partition as partition_value};
 ghost use Rattle.changes.specs.Order.{partition_cmp};
 ghost use Rattle.changes.specs.Queries.{MeetsBounds};
+ghost use Rattle.partition_content.specs.Partition.{changes_in, IsReadyFor};
 ghost use Rattle.durable_state.specs.State.{changes_of, Holds};
 ghost use Rattle.durable_state.specs.Taking.{ArriveAt, TakesIn};
 ghost use Rattle.list_replica.specs.Stores.{all_of, listed, IsReadyAt};
-ghost use Rattle.list_replica.specs.Staging.{Comes};
+ghost use Rattle.list_replica.specs.Staging.{Comes, FitsAt, IsMergedWithin, IsMergedPast};
 
 use cell_merge::Content;
-use changes::{Bound, Partition};
+use changes::{Bound, Partition, encoded_length};
 use cs_base::{Items, Micros, Range};
 use partition_content::PartitionContent;
 use replica::Partitions;
@@ -24,21 +25,52 @@ use std::collections::BTreeMap;
 /// The contents of partitions. One of which nothing is held may stand there too, for changes to come.
 pub type Contents = BTreeMap<Partition, PartitionContent>;
 
-/// Takes the memory that `take_in` needs for these changes of a partition.
+/// The most bytes of what is held of a partition, as it is stored: 16 MiB.
+const MAX_CONTENT: u64 = 1 << 24;
+
+/// Whether a content stays within 16 MiB with these changes. Mostly it does with all of them, whatever they take the place of,
+/// which costs no look at the content.
+pub fn stays_within(content: &PartitionContent, changes: &Content) -> bool
+    requires { IsReadyFor content.now changes.now }
+    ensures within { IsTrue result → IsMergedWithin (changes_in content.now) changes.now }
+    ensures past { result ≡ false → IsMergedPast (changes_in content.now) changes.now }
+{
+    let most = content
+        .encoded_length()
+        .saturating_add(encoded_length(changes.as_slice()));
+    if most <= MAX_CONTENT {
+        return true;
+    }
+    content.length_with(changes) <= MAX_CONTENT
+}
+
+/// Takes the memory that these changes need, and tells whether the content stays within 16 MiB with them.
+fn reserve_in(content: &mut PartitionContent, incoming: &Content) -> Result<bool, AllocError>
+    ensures ready { OnOk result (IsReadyFor content.new incoming.now) }
+    ensures within { IfOk result (λ within. IsTrue within → IsMergedWithin (changes_in content.new) incoming.now) }
+    ensures stored { content.new.stored ≡ content.old.stored }
+{
+    content.reserve(incoming)?;
+    Ok(stays_within(content, incoming))
+}
+
+/// Takes the memory that `take_in` needs for these changes of a partition, and tells whether what is held of it stays within
+/// 16 MiB with them: the partition is looked up once for both.
 pub fn reserve(
     contents: &mut Contents,
     alloc: Global,
     partition: &Partition,
     incoming: &Content,
-) -> Result<(), AllocError>
+) -> Result<bool, AllocError>
     requires { IsOrdered partition_cmp contents.old }
     ensures ready { OnOk result (IsReadyAt contents.new partition.now incoming.now) }
+    ensures within { IfOk result (λ within. IsTrue within → FitsAt contents.new partition.now incoming.now) }
     ensures stored { all_of contents.new.entries ≡ all_of contents.old.entries }
     ensures ordered { IsOrdered partition_cmp contents.new }
     ensures others { (q : partition_value) → q ≢ partition.now → get partition_cmp contents.new q ≡ get partition_cmp contents.old q }
 {
     match contents.get_mut(partition) {
-        Some(content) => content.reserve(incoming),
+        Some(content) => reserve_in(content, incoming),
         None => begin(contents, alloc, partition, incoming),
     }
 }
@@ -49,19 +81,20 @@ fn begin(
     alloc: Global,
     partition: &Partition,
     incoming: &Content,
-) -> Result<(), AllocError>
+) -> Result<bool, AllocError>
     requires ordered { IsOrdered partition_cmp contents.old }
     requires new { get partition_cmp contents.old partition.now ≡ None }
     ensures ready { OnOk result (IsReadyAt contents.new partition.now incoming.now) }
+    ensures within { IfOk result (λ within. IsTrue within → FitsAt contents.new partition.now incoming.now) }
     ensures stored { all_of contents.new.entries ≡ all_of contents.old.entries }
     ensures ordered { IsOrdered partition_cmp contents.new }
     ensures others { (q : partition_value) → q ≢ partition.now → get partition_cmp contents.new q ≡ get partition_cmp contents.old q }
 {
     let key = partition.copy(alloc)?;
     let mut content = PartitionContent::new(alloc);
-    content.reserve(incoming)?;
+    let within = reserve_in(&mut content, incoming)?;
     contents.insert(key, content)?;
-    Ok(())
+    Ok(within)
 }
 
 /// Takes changes in at a node time, for which there is memory.

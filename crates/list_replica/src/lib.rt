@@ -4,6 +4,7 @@
 mod contents;
 mod hints;
 mod in_memory;
+mod loads;
 mod memtable;
 mod on_log;
 mod removing;

@@ -5,7 +5,7 @@ ghost use Rattle.replica.specs.Kept.{ArriveAllAt, PurgeNothing};
 ghost use Rattle.replica.specs.Lengths.{AllStaySmall, IsFirstTooLarge};
 
 use crate::contents::Contents;
-use crate::staging::{Staged, first_past, reserve_all, stage, take_all};
+use crate::staging::{Staged, first_large, reserve_all, stage, take_all};
 use changes::Partition;
 use cs_base::Micros;
 use http_server::Log;
@@ -61,8 +61,8 @@ impl Memtable {
     {
         let items = entry.items.as_slice();
         let staged = stage(alloc, items)?;
-        reserve_all(&mut self.contents, alloc, staged.as_slice())?;
-        if let Some(partition) = first_past(&self.contents, staged.as_slice(), items) {
+        let within = reserve_all(&mut self.contents, alloc, staged.as_slice())?;
+        if let Some(partition) = first_large(&self.contents, staged.as_slice(), items, within) {
             return Ok(Some(partition.copy(alloc)?));
         }
         self.staged = staged;

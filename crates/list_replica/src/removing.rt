@@ -7,11 +7,12 @@ ghost use Rattle.durable_state.specs.Taking.{LetsGo};
 ghost use Rattle.list_replica.specs.Removing.{is_other, is_same_held, IsAdded, IsWithout};
 ghost use Rattle.list_replica.specs.Stores.{all_of};
 
-use crate::contents::Contents;
+use crate::loads::Loads;
 use cell_merge::Content;
 use changes::{Change, Held};
-use partition_content::{Arrived, PartitionContent};
+use partition_content::{Arrived, LoadedContent, PartitionContent};
 use std::alloc::{AllocError, Global};
+use std::mem;
 
 /// Puts a change in at the time at which it came.
 fn add(rest: &mut PartitionContent, alloc: Global, arrived: Arrived) -> Result<(), AllocError>
@@ -61,21 +62,22 @@ fn without(
     Ok(rest)
 }
 
-fn remove(content: &mut PartitionContent, alloc: Global, held: &Held) -> Result<(), AllocError>
-    ensures { OnOk result (IsWithout held.now content.old.stored content.new.stored) }
+fn remove(loaded: &mut LoadedContent, alloc: Global, held: &Held) -> Result<(), AllocError>
+    ensures { OnOk result (IsWithout held.now loaded.old.stored loaded.new.stored) }
 {
-    *content = without(content, alloc, held)?;
+    let content = mem::replace(loaded, LoadedContent::new(alloc)).into_content()?;
+    *loaded = LoadedContent::from_content(alloc, without(&content, alloc, held)?);
     Ok(())
 }
 
 /// Lets go of a change of a partition, if it is held.
-pub fn let_go(contents: &mut Contents, alloc: Global, change: &Change) -> Result<(), AllocError>
-    requires { IsOrdered partition_cmp contents.old }
-    ensures gone { OnOk result (LetsGo (all_of contents.old.entries) change.now (all_of contents.new.entries)) }
-    ensures ordered { IsOrdered partition_cmp contents.new }
+pub fn let_go(loads: &mut Loads, alloc: Global, change: &Change) -> Result<(), AllocError>
+    requires { IsOrdered partition_cmp loads.old }
+    ensures gone { OnOk result (LetsGo (all_of loads.old.entries) change.now (all_of loads.new.entries)) }
+    ensures ordered { IsOrdered partition_cmp loads.new }
 {
-    match contents.get_mut(&change.partition) {
-        Some(content) => remove(content, alloc, &change.held),
+    match loads.get_mut(&change.partition) {
+        Some(loaded) => remove(loaded, alloc, &change.held),
         None => Ok(()),
     }
 }

@@ -9,10 +9,10 @@ ghost use Rattle.replica.specs.Kept.{IsKeptOf, IsInOrder};
 ghost use Rattle.list_replica.specs.Keeping.{kept_by, entries_of};
 ghost use Rattle.list_replica.specs.Memtables.{committed, kept_in, IsSound};
 ghost use Rattle.list_replica.specs.Rows.{row_entry, number_entry};
-ghost use Rattle.list_replica.specs.Stores.{TakesData};
+ghost use Rattle.list_replica.specs.Stores.{all_of, TakesData};
 
-use crate::contents::{Contents, reserve, take_in};
 use crate::hints::{Numbers, raise_last, remove_hint, set_last};
+use crate::loads::{Loads, into_contents, load_in};
 use crate::memtable::Memtable;
 use crate::removing::let_go;
 use cell_merge::Content;
@@ -32,7 +32,7 @@ type Rows = BTreeMap<Partition, PaxosRow>;
 /// What the entries so far made.
 #[derive(Drop)]
 pub struct Replay {
-    pub contents: Contents,
+    pub contents: Loads,
     pub ceiling: Micros,
     pub rows: Rows,
     pub hints: Vec<Hint>,
@@ -44,20 +44,18 @@ pub struct Replay {
 
 /// Takes the changes of a mutation in, at a node time.
 fn take_data(
-    contents: &mut Contents,
+    loads: &mut Loads,
     alloc: Global,
     mutation: Mutation,
     at: Micros,
 ) -> Result<(), AllocError>
-    requires { IsOrdered partition_cmp contents.old }
-    ensures takes { OnOk result (TakesData at mutation contents.old contents.new) }
-    ensures ordered { IsOrdered partition_cmp contents.new }
+    requires { IsOrdered partition_cmp loads.old }
+    ensures takes { OnOk result (TakesData at mutation loads.old loads.new) }
+    ensures ordered { IsOrdered partition_cmp loads.new }
 {
     let Mutation { partition, changes } = mutation;
     let incoming = Content::from_changes(alloc, changes.into_vec())?;
-    reserve(contents, alloc, &partition, &incoming)?;
-    take_in(contents, &partition, incoming, at);
-    Ok(())
+    load_in(loads, alloc, partition, incoming, at)
 }
 
 impl Replay {
@@ -173,7 +171,8 @@ impl Replay {
 
     /// The contents, and what is kept beside them.
     fn finish(self, alloc: Global) -> Result<(Memtable, Kept), AllocError>
-        ensures contents { IfOk result (λ r. r.0.contents ≡ self.contents) }
+        ensures contents { IfOk result (λ r. all_of r.0.contents.entries ≡ all_of self.contents.entries) }
+        ensures ordered { IfOk result (λ r. IsOrdered partition_cmp r.0.contents) }
         ensures committed { IfOk result (λ r. r.0.committed.items ≡ self.committed.items) }
         ensures kept { IfOk result (λ r. (d : durable) → Shows self d → IsKeptOf d r.1) }
         ensures in_order { IfOk result (λ r. IsInOrder r.1) }
@@ -187,6 +186,7 @@ impl Replay {
             marks,
             committed,
         } = self;
+        let contents = into_contents(alloc, contents)?;
         let rows = list_rows(alloc, rows)?;
         let numbers = list_numbers(alloc, numbers)?;
         let kept = Kept {

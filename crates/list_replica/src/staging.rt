@@ -9,17 +9,14 @@ ghost use Rattle.changes.specs.Contents.{IsContent};
 ghost use Rattle.changes.specs.Order.{partition_cmp};
 ghost use Rattle.durable_state.specs.Taking.{InOne};
 ghost use Rattle.list_replica.specs.Stores.{all_of, IsReadyAt};
-ghost use Rattle.list_replica.specs.Staging.{mutation_of as mutation_in_item, mutations, Brings, IsStagedAt, StagesAt, IsStaging, AreOnce, AreReady, IsWithin, IsPast, StaysWithin, GrowsPast, AllStayWithin, IsFirstPast, Comes, AllCome};
+ghost use Rattle.list_replica.specs.Staging.{mutation_of as mutation_in_item, mutations, Brings, IsStagedAt, StagesAt, IsStaging, AreOnce, AreReady, AllFit, IsWithin, IsPast, StaysWithin, GrowsPast, AllStayWithin, IsFirstPast, Comes, AllCome};
 
-use crate::contents::{Contents, reserve, take_in};
+use crate::contents::{Contents, reserve, stays_within, take_in};
 use cell_merge::Content;
 use changes::{Held, Mutation, Partition};
 use cs_base::Micros;
 use row_change::LogItem;
 use std::alloc::{AllocError, Global};
-
-/// The most bytes of what is held of a partition, as it is stored: 16 MiB.
-const MAX_CONTENT: u64 = 1 << 24;
 
 /// The content of all changes that an entry brings to a partition.
 #[derive(Debug, Drop)]
@@ -51,8 +48,9 @@ fn is_same(a: &Partition, b: &Partition) -> bool
 fn copy_onto(changes: &mut Vec<Held>, alloc: Global, more: &[Held]) -> Result<(), AllocError>
     ensures { OnOk result (changes.new.items ≡ changes.old.items ++ more.now) }
 {
+    changes.reserve(more.len())?;
     for held in more {
-        changes.push(held.copy(alloc)?)?;
+        changes.push_reserved(held.copy(alloc)?);
     }
     Ok(())
 }
@@ -127,22 +125,25 @@ pub fn stage(alloc: Global, items: &[LogItem]) -> Result<Vec<Staged>, AllocError
     Ok(staged)
 }
 
-/// Takes the memory that `take_all` needs for these changes.
+/// Takes the memory that `take_all` needs for these changes, and tells whether what is held of each partition stays within
+/// 16 MiB with them.
 pub fn reserve_all(
     contents: &mut Contents,
     alloc: Global,
     staged: &[Staged],
-) -> Result<(), AllocError>
+) -> Result<bool, AllocError>
     requires ordered { IsOrdered partition_cmp contents.old }
     requires once { AreOnce staged.now }
     ensures ready { OnOk result (AreReady contents.new staged.now) }
+    ensures within { IfOk result (λ within. IsTrue within → AllFit contents.new staged.now) }
     ensures stored { all_of contents.new.entries ≡ all_of contents.old.entries }
     ensures ordered { IsOrdered partition_cmp contents.new }
 {
+    let mut within = true;
     for changes in staged {
-        reserve(contents, alloc, &changes.partition, &changes.changes)?;
+        within &= reserve(contents, alloc, &changes.partition, &changes.changes)?;
     }
-    Ok(())
+    Ok(within)
 }
 
 /// Whether what is held of a partition stays within 16 MiB with its changes.
@@ -152,7 +153,7 @@ fn fits(contents: &Contents, staged: &Staged) -> bool
     ensures past { result ≡ false → IsPast contents.now staged.now }
 {
     match contents.get(&staged.partition) {
-        Some(content) => content.length_with(&staged.changes) <= MAX_CONTENT,
+        Some(content) => stays_within(content, &staged.changes),
         None => true,
     }
 }
@@ -173,7 +174,7 @@ fn fits_at(contents: &Contents, staged: &[Staged], partition: &Partition) -> boo
 }
 
 /// The first partition of the items of which too much would be held.
-pub fn first_past<'a>(
+fn first_past<'a>(
     contents: &Contents,
     staged: &[Staged],
     items: &'a [LogItem],
@@ -191,6 +192,25 @@ pub fn first_past<'a>(
         }
     }
     None
+}
+
+/// The same, where it may be known that each of them stays within: then nothing is looked up.
+pub fn first_large<'a>(
+    contents: &Contents,
+    staged: &[Staged],
+    items: &'a [LogItem],
+    within: bool,
+) -> Option<&'a Partition>
+    requires staging { IsStaging items.now staged.now }
+    requires ready { AreReady contents.now staged.now }
+    requires within { IsTrue within → AllFit contents.now staged.now }
+    ensures none { IfNone result (AllStayWithin contents.now staged.now items.now) }
+    ensures some { IfSome result (λ p. IsFirstPast contents.now staged.now items.now p.now) }
+{
+    if within {
+        return None;
+    }
+    first_past(contents, staged, items)
 }
 
 /// Takes the changes of a partition in at a node time.

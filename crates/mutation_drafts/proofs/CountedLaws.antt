@@ -1,10 +1,10 @@
 -- No request makes more of drafts than is counted for them.
-use Rattle.std.proofs.Common.{◌≡◌, ◌≢◌, ◌≤◌, ◌+◌, ◌<◌, ◌⊎◌, ℕ, inl, inr, List, [], ◌∷◌, Bool, true, false, max, map, length, get_or, drop, refl, sym, ◌∙◌, ap, subst, arith}
+use Rattle.std.proofs.Common.{◌≡◌, ◌≢◌, ◌≤◌, ◌+◌, ◌<◌, ◌⊎◌, ℕ, inl, inr, List, [], ◌∷◌, Bool, true, false, max, map, nat_lt, length, get_or, drop, refl, sym, ◌∙◌, ap, subst, arith}
 use Rattle.std.specs.List.{sum_by}
 use Rattle.std.specs.Ordering.{eq_by_cmp}
 use Rattle.std.specs.declared.cmp.Ordering.{Ordering}
 use Rattle.std.specs.declared.cmp.Ordering.TheVariants.{Less, Equal, Greater}
-use Rattle.std.proofs.lemmas.Bool.{cond_both, cond-true, cond-false}
+use Rattle.std.proofs.lemmas.Bool.{cond_both, cond-true, cond-false, le-ltb, ltb-false}
 use Rattle.std.proofs.lemmas.List.{at_drop_more}
 use Rattle.std.proofs.lemmas.List.Sums.{sum_by-cons}
 use Rattle.cs_base.specs.declared.ids.ReqId.{ReqId}
@@ -20,7 +20,7 @@ use Rattle.changes.proofs.Best.{better_either}
 use Rattle.changes.proofs.Orderings.{cases_ordering, equal_is, greater_back}
 use Rattle.changes.proofs.Places.{place_exact, place_tied}
 use Rattle.changes.proofs.Ranks.{rank_total}
-use Rattle.mutation_drafts.specs.Counted.{counted, counted_after, counted_length, draft_length, most_mutation_bytes, FitsAlways}
+use Rattle.mutation_drafts.specs.Counted.{all_length, counted, counted_after, counted_length, draft_length, is_long_mutation, most_mutation_bytes, FitsAlways}
 
 abbrev total : List Held → ℕ
 total changes = sum_by held_length changes
@@ -167,6 +167,26 @@ counts_enough m request = omega (arith, counts request m.changes)
 
 pub fits_always : (m : DraftMutation) → counted_length m ≤ most_mutation_bytes → FitsAlways m
 fits_always m most request = omega (arith, most, counts_enough m request)
+
+-- ---- all drafts together
+
+counted_after_all : (most : ℕ) (p : Place) (ds : List Draft) → counted_after most p ds ≤ most + sum_by draft_length ds
+counted_after_all most p [] = omega arith
+counted_after_all most p (d ∷ rest) =
+    cond_both (eq_by_cmp place_cmp p d.place) (counted_after (max most (draft_length d)) p rest) (most + counted_after (draft_length d) d.place rest)
+    (λ (n : ℕ). n ≤ most + sum_by draft_length (d ∷ rest))
+    (λ t. omega (arith, counted_after_all (max most (draft_length d)) p rest, sum_by-cons draft_length d rest))
+    (λ t. omega (arith, counted_after_all (draft_length d) d.place rest, sum_by-cons draft_length d rest))
+
+counted_all : (ds : List Draft) → counted ds ≤ sum_by draft_length ds
+counted_all [] = omega arith
+counted_all (d ∷ rest) = omega (arith, counted_after_all (draft_length d) d.place rest, sum_by-cons draft_length d rest)
+
+-- what is not long with all drafts is not long
+pub few_are_not_long : (m : DraftMutation) → nat_lt most_mutation_bytes (all_length m) ≡ false → is_long_mutation m ≡ false
+few_are_not_long m few =
+    let all = ltb-false most_mutation_bytes (all_length m) few in
+    le-ltb most_mutation_bytes (counted_length m) (omega (arith, all, counted_all m.changes))
 
 -- ---- as they are counted
 

@@ -1,6 +1,6 @@
 -- How many bytes are counted for a mutation. Of drafts of one place one change stays, which one is seen when the request
 -- starts: so drafts of one place that stand together count once, by the longest.
-use Rattle.std.specs.Prelude.{◌≡◌, ◌≤◌, ℕ, ◌+◌, Bool, List, [], ◌∷◌, max, nat_lt, if◌then◌else◌}
+use Rattle.std.specs.Prelude.{◌≡◌, ◌≤◌, ℕ, ◌+◌, Bool, List, [], ◌∷◌, max, nat_lt, sum_by, if◌then◌else◌}
 use Rattle.std.specs.Ordering.{eq_by_cmp}
 use Rattle.cs_base.specs.declared.ids.ReqId.{ReqId}
 use Rattle.changes.specs.declared.Draft.{Draft}
@@ -25,6 +25,10 @@ counted_after longest place (d ∷ rest) =
 abbrev pub counted : List Draft → ℕ
 counted [] = 0
 counted (d ∷ rest) = counted_after (draft_length d) d.place rest
+
+-- the bytes of all drafts
+abbrev pub all_length : DraftMutation → ℕ
+all_length m = partition_length m.partition + 4 + sum_by draft_length m.changes
 
 abbrev pub counted_length : DraftMutation → ℕ
 counted_length m = partition_length m.partition + 4 + counted m.changes

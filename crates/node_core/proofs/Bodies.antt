@@ -1,41 +1,48 @@
 -- What a body that is heard makes of a step.
-use Rattle.std.proofs.Common.{◌≡◌, ◌<◌, ◌+◌, ℕ, Bool, true, false, Option, Some, None, List, [], ◌∷◌, ◌++◌, refl, sym, ap, subst, ◌∙◌, arith, filter, append-nil}
-use Rattle.std.specs.Prelude.{MatchBool, if◌then◌else◌, nat_lt}
+use Rattle.std.proofs.Common.{◌≡◌, ◌<◌, ◌⊎◌, inl, inr, ℕ, Bool, true, false, cond, Option, Some, None, List, [], ◌∷◌, ◌++◌, refl, sym, ap, subst, ◌∙◌, arith, filter, append-nil}
+use Rattle.std.specs.Prelude.{◌==◌, MatchBool, if◌then◌else◌, nat_lt}
 use Rattle.std.specs.List.{AllByRecursion}
+use Rattle.std.specs.BTreeMap.{is_at}
+use Rattle.std.proofs.lemmas.Bool.{eqb-true}
 use Rattle.cs_base.specs.declared.ids.ReqId.{ReqId}
+use Rattle.cs_base.specs.Requests.{request_cmp}
 use Rattle.changes.specs.declared.Held.{Held}
 use Rattle.changes.specs.declared.Mutation.{Mutation}
-use Rattle.row_change.specs.declared.entry.LogItem.{LogItem}
+use Rattle.stored_changes.specs.Spelling.{MutationFits}
 use Rattle.row_change.specs.declared.entry.LogItem.TheVariants.{Data}
 use Rattle.peer_messages.specs.declared.chronicle.Entry.{Entry}
 use Rattle.peer_messages.specs.declared.message.Body.{Body}
-use Rattle.peer_messages.specs.declared.message.Body.TheVariants.{Write, WriteAck, Read, ReadReply}
+use Rattle.peer_messages.specs.declared.message.Body.TheVariants.{Write, WriteAck, Read, ReadReply, Hint, HintAck}
 use Rattle.peer_messages.specs.declared.outcome.Move.{Move}
 use Rattle.peer_messages.specs.declared.outcome.Outbound.{Outbound}
 use Rattle.peer_messages.specs.declared.setting.Setting.{Setting}
 use Rattle.peer_messages.specs.Moves.{quiet}
 use Rattle.durable_state.specs.State.{Durable, changes_of}
-use Rattle.durable_state.specs.Keeping.{Commits, TakesItem}
-use Rattle.durable_state.proofs.Entries.{commits_parts}
-use Rattle.node_steps.specs.State.{NodeState, OpenWrite, OpenRead}
-use Rattle.node_steps.specs.Effects.{Effects, nothing, effects_of, open_at, Takes}
+use Rattle.durable_state.specs.Keeping.{Commits}
+use Rattle.node_steps.specs.State.{NodeState, OpenWrite, OpenRead, loaded}
+use Rattle.node_steps.specs.Effects.{Effects, nothing, effects_of, open_at, outbound, after_move, Takes}
+use Rattle.node_steps.specs.Hints.{KeptHints}
+use Rattle.node_steps.specs.Leading.{MovesOn, keeping, state_under}
 use Rattle.node_steps.specs.Replicas as replicas
 use Rattle.node_steps.specs.Replicas.{IsReplyTo}
 use Rattle.node_steps.specs.Writes.{HearsAck, ack_told, heard_write, is_enough}
 use Rattle.node_steps.specs.Reads.{HearsReply, MergesReply, TellsRows, is_stray, replies_of, read_needs}
-use Rattle.node_steps.specs.Acts.{Incoming, HearsBody, is_old, asker_of}
-use Rattle.node_steps.specs.Keeping.{data_of}
+use Rattle.node_steps.specs.Acts.{Act, Hears, HearsBody, is_old}
+use Rattle.node_steps.specs.Keeping.{Gone, data_of, gone_by_body}
 use Rattle.node_steps.specs.Stops.{is_entered_at_stop}
+use Rattle.node_steps.proofs.Leading.{made_of, moves_quietly, moves_by_write, moves_by_hint}
+use Rattle.hint_store.specs.Staged.{IsSameHints}
 use Rattle.node_core.specs.declared.base.Base.{Base}
 use Rattle.node_core.specs.declared.slot.Slot.{Slot}
 use Rattle.node_core.specs.declared.hearing.Asker.{Asker}
 use Rattle.node_core.specs.declared.work.Given.{Given}
-use Rattle.node_core.specs.declared.work.Heard.{Heard}
 use Rattle.node_core.specs.declared.work.Work.{Work}
 use Rattle.node_core.specs.Hearing.{Moves, AckMoves, ReplyMoves}
-use Rattle.node_core.specs.Working.{state_at, effects_given, weight_of, weight, BodyFits, IsSlotOf, IsDataAt, IsSound, with_slot}
-use Rattle.node_core.specs.Moving.{IsReadFor, TakesBody, AreOf, IsHeard, replies}
-use Rattle.node_core.specs.Slots.{IsNew}
+use Rattle.node_core.specs.Hinting.{Stage, at, HearsHintAck}
+use Rattle.node_core.specs.Working.{Heard, forgotten_in, state_at, effects_given, heard_act, own_sent, weight_of, weight, BodyFits, IsPlain, IsOwn, IsDataAt, IsSound, FitWrites, with_slot}
+use Rattle.node_core.specs.Moving.{GoesOn, IsReadFor, IsOfOther, Moved, TakesBody, TakesChanges, IsHeard, left_writes, left_reads, replies}
+use Rattle.node_core.proofs.Hinting.{acked_own, acked_goes_on, acked_moved, acked_sound, none_either}
+use Rattle.node_core.proofs.LeftOpen.{all_at, all_removed, all_set}
 use Rattle.node_core.proofs.Slots.{some_one}
 
 -- ---- what an acknowledgement and a reply give
@@ -81,177 +88,228 @@ same_effects : (g : Given) (o : Effects) → effects_given g ≡ o → (g.sends 
 same_effects g o is = (ap (λ (e : Effects). e.sends) is, ap (λ (e : Effects). e.entries) is)
 
 -- of what is given: what a step needs to know
-pub record Gives (b : Body) (id : ReqId) (g : Given) : Type 0 where
-  pub sends : AreOf id g.sends
-  pub lighter : weight g.sends < weight_of b
+pub record Gives (me : ℕ) (b : Body) (id : ReqId) (g : Given) : Type 0 where
+  pub own : AllByRecursion (IsOwn me id) (own_sent me g.sends)
+  pub lighter : weight (own_sent me g.sends) < weight_of b
   pub quiet : filter is_entered_at_stop g.entries ≡ []
 
-gives_little : (b : Body) (id : ReqId) (g : Given) (o : Effects) → effects_given g ≡ o → GivesLittle o → 0 < weight_of b → Gives b id g
-gives_little b id g o is little heavy =
+gives_little : (me : ℕ) (b : Body) (id : ReqId) (g : Given) (o : Effects) → effects_given g ≡ o → GivesLittle o → 0 < weight_of b → Gives me b id g
+gives_little me b id g o is little heavy =
     let none : g.sends ≡ [] = (same_effects g o is).0 ∙ little.sends in
     record {
-      sends = subst (λ (xs : List Outbound). AreOf id xs) (sym none) (record { requests = tt; fit = tt });
-      lighter = subst (λ (xs : List Outbound). weight xs < weight_of b) (sym none) heavy;
+      own = subst (λ (xs : List Outbound). AllByRecursion (IsOwn me id) (own_sent me xs)) (sym none) tt;
+      lighter = subst (λ (xs : List Outbound). weight (own_sent me xs) < weight_of b) (sym none) heavy;
       quiet = ap (filter is_entered_at_stop) (same_effects g o is).1 ∙ little.quiet;
     }
 
-replied_gives : (b body : Body) (a : Asker) (g : Given) → effects_given g ≡ replies a body → BodyFits body → weight_of body + 0 < weight_of b → Gives b a.request g
-replied_gives b body a g is fit heavy =
+-- a body that goes back
+one_own : (b : Bool) (me : ℕ) (id : ReqId) (body : Body) (k : ℕ) → (k == me) ≡ b → BodyFits body → IsPlain body ⊎ (k ≡ me → ⊥) → AllByRecursion (IsOwn me id) (cond b (outbound id body k ∷ []) [])
+one_own true me id body k is fits (inl plain) = (record { upto = eqb-true k me is; request = refl; fits = fits; plain = plain }, tt)
+one_own true me id body k is fits (inr away) = absurd (away (eqb-true k me is))
+one_own false me id body k is fits plain = tt
+
+one_light : (b : Bool) (id : ReqId) (body : Body) (k n : ℕ) → weight_of body < n → weight (cond b (outbound id body k ∷ []) []) < n
+one_light true id body k n light = omega arith
+one_light false id body k n light = omega arith
+
+replied_gives : (me : ℕ) (b body : Body) (a : Asker) (g : Given) → effects_given g ≡ replies a body → BodyFits body → IsPlain body ⊎ (a.from ≡ me → ⊥) → weight_of body < weight_of b → Gives me b a.request g
+replied_gives me b body a g is fit plain light =
     let same = same_effects g (replies a body) is in
     record {
-      sends = subst (λ (xs : List Outbound). AreOf a.request xs) (sym same.0) (record { requests = (refl, tt); fit = (fit, tt) });
-      lighter = subst (λ (xs : List Outbound). weight xs < weight_of b) (sym same.0) heavy;
+      own = subst (λ (xs : List Outbound). AllByRecursion (IsOwn me a.request) (own_sent me xs)) (sym same.0) (one_own (a.from == me) me a.request body a.from refl fit plain);
+      lighter = subst (λ (xs : List Outbound). weight (own_sent me xs) < weight_of b) (sym same.0) (one_light (a.from == me) a.request body a.from (weight_of b) light);
       quiet = ap (filter is_entered_at_stop) same.1;
     }
 
-moved_little : {A : Type 0} (Step : A → Move → A → Type 0) (id : ReqId) (xs : List (ReqId × A)) (slot slot' : Slot A) (g : Given) (b : Body) → ((ys ys' : List (ReqId × A)) (o : Option A) (turn : Move) → Takes Step id ys o turn ys' → Little turn)
-    → 0 < weight_of b → Moves Step id xs slot g slot' → Gives b id g
-moved_little {A} Step id xs slot slot' g b little heavy m =
-    gives_little b id g (effects_of m.turn) m.gives (little (with_slot id slot xs) (with_slot id slot' xs) (open_at (with_slot id slot xs) id) m.turn m.moves) heavy
+moved_little : {A : Type 0} (Step : A → Move → A → Type 0) (me : ℕ) (id : ReqId) (xs : List (ReqId × A)) (slot slot' : Slot A) (g : Given) (b : Body) → ((ys ys' : List (ReqId × A)) (o : Option A) (turn : Move) → Takes Step id ys o turn ys' → Little turn)
+    → 0 < weight_of b → Moves Step id xs slot g slot' → Gives me b id g
+moved_little {A} Step me id xs slot slot' g b little heavy m =
+    gives_little me b id g (effects_of m.turn) m.gives (little (with_slot id slot xs) (with_slot id slot' xs) (open_at (with_slot id slot xs) id) m.turn m.moves) heavy
 
-pub body_gives : (b : Base) (w w' : Work) (a : Asker) (body : Body) (part : Option (List Held)) (g : Given) → TakesBody b w a body part g w' → Gives body a.request g
-body_gives b w w' a (Write m) part g h = replied_gives (Write m) WriteAck a g h.0 tt (omega arith)
-body_gives b w w' a WriteAck part g h = moved_little (HearsAck b.setting a.request a.from) a.request b.writes.entries w.write w'.write g WriteAck (λ ys ys' o turn. ack_little b.setting a.request a.from ys ys' o turn) (omega arith) h.0
-body_gives b w w' a (Read q) part g ((p, there, is), same) = replied_gives (Read q) (ReadReply p) a g is tt (omega arith)
-body_gives b w w' a (ReadReply content) part g h =
-    moved_little (HearsReply b.setting a.request a.from content) a.request b.reads.entries w.read w'.read g (ReadReply content) (λ ys ys' o turn. reply_little b.setting a.request a.from content ys ys' o turn) (omega arith) h.0
+acked_gives_it : (b : Base) (x x' : Stage) (a : Asker) (number : ℕ) (g : Given) → (a.from ≡ b.me → ⊥) → HearsHintAck b a.from number x g x' → Gives b.me (HintAck number) a.request g
+acked_gives_it b x x' a number g away takes =
+    let own = acked_own b a.from number x x' g away takes in
+    record {
+      own = subst (λ (xs : List Outbound). AllByRecursion (IsOwn b.me a.request) xs) (sym own) tt;
+      lighter = subst (λ (xs : List Outbound). weight xs < 1) (sym own) (omega arith);
+      quiet = ap (filter is_entered_at_stop) takes.entries;
+    }
+
+pub body_gives : (b : Base) (x x' : Stage) (a : Asker) (body : Body) (part : Option (List Held)) (g : Given) → IsOfOther b.me a.from body → TakesBody b x a body part g x' → Gives b.me body a.request g
+body_gives b x x' a (Write m) part g other h = replied_gives b.me (Write m) WriteAck a g h.gives tt (inl tt) (omega arith)
+body_gives b x x' a WriteAck part g other h = moved_little (HearsAck b.setting a.request a.from) b.me a.request (left_writes b x.work) x.work.write x'.work.write g WriteAck (λ ys ys' o turn. ack_little b.setting a.request a.from ys ys' o turn) (omega arith) h.0
+body_gives b x x' a (Read q) part g other ((p, there, is), same) = replied_gives b.me (Read q) (ReadReply p) a g is tt (inl tt) (omega arith)
+body_gives b x x' a (ReadReply content) part g other h =
+    moved_little (HearsReply b.setting a.request a.from content) b.me a.request (left_reads b x.work) x.work.read x'.work.read g (ReadReply content) (λ ys ys' o turn. reply_little b.setting a.request a.from content ys ys' o turn) (omega arith) h.0
+body_gives b x x' a (Hint number m) part g other h = replied_gives b.me (Hint number m) (HintAck number) a g h.gives tt (inr (other (λ p. p))) (omega arith)
+body_gives b x x' a (HintAck number) part g other h = acked_gives_it b x x' a number g (other (λ p. p)) h
 
 -- ---- the move
 
 abbrev asks_as : Asker → replicas.Asker
 asks_as a = record { from = a.from; request = a.request }
 
-abbrev BodyMoves : Base → Durable → Work → Asker → Body → Given → Work → Type 0
-BodyMoves b d w a body g w' =
-    (d' : Durable) → Commits w'.items d d' → (mid : Durable) × Commits w.items d mid × HearsBody b.setting (asks_as a) body (state_at b mid w) (effects_given g) (state_at b d' w')
+abbrev act_at : Asker → ℕ → Body → Act
+act_at a born body = Hears (record { from = a.from; born = born; request = a.request; body = body })
 
-same_items : (w w' v : Work) (d d' : Durable) → w' ≡ v → v.items ≡ w.items → Commits w'.items d d' → Commits w.items d d'
-same_items w w' v d d' is same h = subst (λ (xs : List LogItem). Commits xs d d') (ap (λ (x : Work). x.items) is ∙ same) h
+young : (c : Setting) (t born : ℕ) (P Q : Type 0) → is_old c t born ≡ false → Q → MatchBool (is_old c t born) P Q
+young c t born P Q fresh h = subst (λ (b : Bool). MatchBool b P Q) (sym fresh) h
 
-wrote : (b : Base) (w w' : Work) (a : Asker) (m : Mutation) (g : Given) (mid d' : Durable) → TakesItem (Data w.time m) mid d' → effects_given g ≡ replies a WriteAck → w' ≡ record w { items = w.items ++ Data w.time m ∷ [] }
-    → HearsBody b.setting (asks_as a) (Write m) (state_at b mid w) (effects_given g) (state_at b d' w')
-wrote b w w' a m g mid d' (takes, arrive, same) gives is = (takes, arrive, gives, ap (λ (x : Work). state_at b d' x) is ∙ ap (λ (d : Durable). state_at b d w) same)
+-- changes that are taken in
+moved_changes : (b : Base) (d : Durable) (k : KeptHints) (x x' : Stage) (a : Asker) (born : ℕ) (body ack : Body) (m : Mutation) (g : Given) → is_old b.setting x.work.time born ≡ false → IsSameHints k x.hints → TakesChanges a m ack x g x'
+    → data_of x.work.time body ≡ Data x.work.time m ∷ []
+    → MovesOn b.setting b.me (loaded d) x.work.ceiling x.work.taken k (forgotten_in b x.work) (act_at a born body) (made_of (Data x.work.time m ∷ []) (replies a ack)) k (forgotten_in b x.work)
+    → Moved b d k x (act_at a born body) g x'
+moved_changes b d k x x' a born body ack m g fresh same takes brings moves = subst (λ (y : Stage). Moved b d k x (act_at a born body) g y) (sym takes.takes) (record {
+  kept = k;
+  same = same;
+  taken = Data x.work.time m ∷ [];
+  made = [];
+  gone = [];
+  takes = refl;
+  makes = sym (append-nil x.work.made);
+  loses = sym (append-nil x.work.gone);
+  brings = ap (λ (old : Bool). if old then [] else data_of x.work.time body) fresh ∙ brings;
+  moves = subst (λ (o : Effects). MovesOn b.setting b.me (loaded d) x.work.ceiling x.work.taken k (forgotten_in b x.work) (act_at a born body) (made_of (Data x.work.time m ∷ []) o) k (forgotten_in b x.work)) (sym takes.gives) moves;
+})
 
-acked : (b : Base) (w : Work) (from : ℕ) (id : ReqId) (g : Given) (d : Durable) (slot : Slot OpenWrite) → w.request ≡ id → AckMoves b.setting id from b.writes.entries w.write g slot
-    → HearsBody b.setting (record { from = from; request = id }) WriteAck (state_at b d w) (effects_given g) (state_at b d (record w { write = slot }))
-acked b w from id g d slot request =
+-- a move by which nothing is kept
+moved_quietly : (b : Base) (d : Durable) (k : KeptHints) (x : Stage) (w' : Work) (a : Asker) (born : ℕ) (body : Body) (g : Given) → is_old b.setting x.work.time born ≡ false → IsSameHints k x.hints → data_of x.work.time body ≡ []
+    → w'.taken ≡ x.work.taken → w'.made ≡ x.work.made → w'.gone ≡ x.work.gone → ((s : NodeState) → gone_by_body (asks_as a) body s ≡ [])
+    → ((e : Durable) → Commits x.work.taken d e → HearsBody b.setting b.me (asks_as a) body (state_at b k e x.work) (effects_given g) (state_under x.work.ceiling (forgotten_in b w') (keeping k e)))
+    → Moved b d k x (act_at a born body) g (at w' x.hints)
+moved_quietly b d k x w' a born body g fresh same brings taken made gone none moves = record {
+  kept = k;
+  same = same;
+  taken = [];
+  made = [];
+  gone = [];
+  takes = taken ∙ sym (append-nil x.work.taken);
+  makes = made ∙ sym (append-nil x.work.made);
+  loses = gone ∙ sym (append-nil x.work.gone);
+  brings = ap (λ (old : Bool). if old then [] else data_of x.work.time body) fresh ∙ brings;
+  moves = moves_quietly b.setting b.me (loaded d) x.work.ceiling x.work.taken k (forgotten_in b x.work) (forgotten_in b w') (act_at a born body) (effects_given g)
+      (λ e commits. young b.setting x.work.time born _ _ fresh (moves e commits))
+      (λ e. (refl, ap (λ (gs : List Gone). if is_old b.setting x.work.time born then [] else gs) (none (state_at b k e x.work)) ∙ none_either (is_old b.setting x.work.time born)));
+}
+
+acked : (b : Base) (w : Work) (from : ℕ) (id : ReqId) (g : Given) (k : KeptHints) (e : Durable) (slot : Slot OpenWrite) → w.request ≡ id → AckMoves b.setting id from (left_writes b w) w.write g slot
+    → HearsBody b.setting b.me (record { from = from; request = id }) WriteAck (state_at b k e w) (effects_given g) (state_at b k e (record w { write = slot }))
+acked b w from id g k e slot request =
     subst
-    (λ (i : ReqId). AckMoves b.setting i from b.writes.entries w.write g slot → HearsBody b.setting (record { from = from; request = i }) WriteAck (state_at b d w) (effects_given g) (state_at b d (record w { write = slot })))
+    (λ (i : ReqId). AckMoves b.setting i from (left_writes b w) w.write g slot → HearsBody b.setting b.me (record { from = from; request = i }) WriteAck (state_at b k e w) (effects_given g) (state_at b k e (record w { write = slot })))
     request (λ m. (m.turn, m.moves, m.gives, refl))
 
-replied : (b : Base) (w : Work) (from : ℕ) (id : ReqId) (content : List Held) (g : Given) (d : Durable) (slot : Slot OpenRead) → w.request ≡ id → ReplyMoves b.setting id from content b.reads.entries w.read g slot
-    → HearsBody b.setting (record { from = from; request = id }) (ReadReply content) (state_at b d w) (effects_given g) (state_at b d (record w { read = slot }))
-replied b w from id content g d slot request =
+replied : (b : Base) (w : Work) (from : ℕ) (id : ReqId) (content : List Held) (g : Given) (k : KeptHints) (e : Durable) (slot : Slot OpenRead) → w.request ≡ id → ReplyMoves b.setting id from content (left_reads b w) w.read g slot
+    → HearsBody b.setting b.me (record { from = from; request = id }) (ReadReply content) (state_at b k e w) (effects_given g) (state_at b k e (record w { read = slot }))
+replied b w from id content g k e slot request =
     subst
-    (λ (i : ReqId). ReplyMoves b.setting i from content b.reads.entries w.read g slot → HearsBody b.setting (record { from = from; request = i }) (ReadReply content) (state_at b d w) (effects_given g) (state_at b d (record w { read = slot })))
+    (λ (i : ReqId). ReplyMoves b.setting i from content (left_reads b w) w.read g slot → HearsBody b.setting b.me (record { from = from; request = i }) (ReadReply content) (state_at b k e w) (effects_given g) (state_at b k e (record w { read = slot })))
     request (λ m. (m.turn, m.moves, m.gives, refl))
 
 one_part : (p q : List Held) (part : Option (List Held)) → part ≡ Some p → part ≡ Some q → p ≡ q
 one_part p q part a b = some_one p q (sym a ∙ b)
 
-pub body_moves : (b : Base) (d : Durable) (w w' : Work) (a : Asker) (body : Body) (part : Option (List Held)) (g : Given) → w.request ≡ a.request → TakesBody b w a body part g w' → IsReadFor w.items d body part → BodyMoves b d w a body g w'
-body_moves b d w w' a (Write m) part g request (gives, is) read d' h =
-    let parts = commits_parts w.items (Data w.time m ∷ []) d d' (subst (λ (xs : List LogItem). Commits xs d d') (ap (λ (x : Work). x.items) is) h) in
-    let rest = parts.2 in (
-      parts.0,
-      parts.1,
-      subst (λ (x : Durable). HearsBody b.setting (asks_as a) (Write m) (state_at b parts.0 w) (effects_given g) (state_at b x w')) (sym rest.2) (wrote b w w' a m g parts.0 rest.0 rest.1 gives is),
-    )
-body_moves b d w w' a WriteAck part g request (moves, is) read d' h = (
-  d',
-  same_items w w' (record w { write = w'.write }) d d' is refl h,
-  subst (λ (x : Work). HearsBody b.setting (asks_as a) WriteAck (state_at b d' w) (effects_given g) (state_at b d' x)) (sym is) (acked b w a.from a.request g d' w'.write request moves),
-)
-body_moves b d w w' a (Read q) part g request ((p, there, gives), is) (p', here, answers) d' h =
-    let commits = same_items w w' w d d' is refl h in (
-      d',
-      commits,
-      (p, subst (λ (x : List Held). IsReplyTo (changes_of d'.content) q x) (one_part p' p part here there) (answers d' commits), gives, ap (λ (x : Work). state_at b d' x) is),
-    )
-body_moves b d w w' a (ReadReply content) part g request (moves, is) read d' h = (
-  d',
-  same_items w w' (record w { read = w'.read }) d d' is refl h,
-  subst (λ (x : Work). HearsBody b.setting (asks_as a) (ReadReply content) (state_at b d' w) (effects_given g) (state_at b d' x)) (sym is) (replied b w a.from a.request content g d' w'.read request moves),
-)
+body_moved : (b : Base) (d : Durable) (k : KeptHints) (x x' : Stage) (a : Asker) (born : ℕ) (body : Body) (part : Option (List Held)) (g : Given) → is_old b.setting x.work.time born ≡ false → IsSameHints k x.hints → x.work.request ≡ a.request
+    → TakesBody b x a body part g x' → IsReadFor x.work.taken d body part → Moved b d k x (act_at a born body) g x'
+body_moved b d k x x' a born (Write m) part g fresh same request takes read =
+    moved_changes b d k x x' a born (Write m) WriteAck m g fresh same takes refl (moves_by_write b.setting b.me (loaded d) x.work.ceiling x.work.taken k (forgotten_in b x.work) a.from born a.request m fresh)
+body_moved b d k x x' a born WriteAck part g fresh same request (moves, is) read =
+    subst (λ (y : Stage). Moved b d k x (act_at a born WriteAck) g y) (sym is)
+    (moved_quietly b d k x (record x.work { write = x'.work.write }) a born WriteAck g fresh same refl refl refl refl (λ s. refl) (λ e commits. acked b x.work a.from a.request g k e x'.work.write request moves))
+body_moved b d k x x' a born (Read q) part g fresh same request ((p, there, gives), is) (p', here, answers) =
+    subst (λ (y : Stage). Moved b d k x (act_at a born (Read q)) g y) (sym is)
+    (moved_quietly b d k x x.work a born (Read q) g fresh same refl refl refl refl (λ s. refl)
+    (λ e commits. (p, subst (λ (v : List Held). IsReplyTo (changes_of e.content) q v) (one_part p' p part here there) (answers e commits), gives, refl)))
+body_moved b d k x x' a born (ReadReply content) part g fresh same request (moves, is) read =
+    subst (λ (y : Stage). Moved b d k x (act_at a born (ReadReply content)) g y) (sym is)
+    (moved_quietly b d k x (record x.work { read = x'.work.read }) a born (ReadReply content) g fresh same refl refl refl refl (λ s. refl) (λ e commits. replied b x.work a.from a.request content g k e x'.work.read request moves))
+body_moved b d k x x' a born (Hint number m) part g fresh same request takes read =
+    moved_changes b d k x x' a born (Hint number m) (HintAck number) m g fresh same takes refl (moves_by_hint b.setting b.me (loaded d) x.work.ceiling x.work.taken k (forgotten_in b x.work) a.from born a.request number m fresh)
+body_moved b d k x x' a born (HintAck number) part g fresh same request takes read = acked_moved b d k x x' a.from born a.request number g fresh same takes
 
 -- ---- what stays, and what can be kept
 
-abbrev incoming : Heard → Incoming
-incoming h = record { from = h.from; born = h.born; request = h.request; body = h.body }
-
--- all but the slots and the items
-record StaysBut (w w' : Work) : Type 0 where
-  pub time : w'.time ≡ w.time
-  pub ceiling : w'.ceiling ≡ w.ceiling
-  pub request : w'.request ≡ w.request
-  pub queue : w'.queue.items ≡ w.queue.items
-  pub messages : w'.messages ≡ w.messages
-  pub entries : w'.entries ≡ w.entries
-
-stays_as : (w w' v : Work) → w' ≡ v → StaysBut w v → StaysBut w w'
-stays_as w w' v is s = subst (λ (x : Work). StaysBut w x) (sym is) s
-
-body_stays : (b : Base) (w w' : Work) (a : Asker) (body : Body) (part : Option (List Held)) (g : Given) → TakesBody b w a body part g w' → StaysBut w w'
-body_stays b w w' a (Write m) part g (gives, is) = stays_as w w' _ is (record { time = refl; ceiling = refl; request = refl; queue = refl; messages = refl; entries = refl })
-body_stays b w w' a WriteAck part g (moves, is) = stays_as w w' (record w { write = w'.write }) is (record { time = refl; ceiling = refl; request = refl; queue = refl; messages = refl; entries = refl })
-body_stays b w w' a (Read q) part g (gives, is) = stays_as w w' w is (record { time = refl; ceiling = refl; request = refl; queue = refl; messages = refl; entries = refl })
-body_stays b w w' a (ReadReply content) part g (moves, is) = stays_as w w' (record w { read = w'.read }) is (record { time = refl; ceiling = refl; request = refl; queue = refl; messages = refl; entries = refl })
-
-body_items : (b : Base) (w w' : Work) (a : Asker) (body : Body) (part : Option (List Held)) (g : Given) → TakesBody b w a body part g w' → w'.items ≡ w.items ++ data_of w.time body
-body_items b w w' a (Write m) part g (gives, is) = ap (λ (x : Work). x.items) is
-body_items b w w' a WriteAck part g (moves, is) = ap (λ (x : Work). x.items) is ∙ sym (append-nil w.items)
-body_items b w w' a (Read q) part g (gives, is) = ap (λ (x : Work). x.items) is ∙ sym (append-nil w.items)
-body_items b w w' a (ReadReply content) part g (moves, is) = ap (λ (x : Work). x.items) is ∙ sym (append-nil w.items)
+body_goes_on : (b : Base) (x x' : Stage) (a : Asker) (body : Body) (part : Option (List Held)) (g : Given) → TakesBody b x a body part g x' → GoesOn x.work x'.work
+body_goes_on b x x' a (Write m) part g h = subst (λ (y : Stage). GoesOn x.work y.work) (sym h.takes) (record { time = refl; ceiling = refl; request = refl; queue = refl; messages = refl; entries = refl })
+body_goes_on b x x' a WriteAck part g (moves, is) = subst (λ (y : Stage). GoesOn x.work y.work) (sym is) (record { time = refl; ceiling = refl; request = refl; queue = refl; messages = refl; entries = refl })
+body_goes_on b x x' a (Read q) part g (gives, is) = subst (λ (y : Stage). GoesOn x.work y.work) (sym is) (record { time = refl; ceiling = refl; request = refl; queue = refl; messages = refl; entries = refl })
+body_goes_on b x x' a (ReadReply content) part g (moves, is) = subst (λ (y : Stage). GoesOn x.work y.work) (sym is) (record { time = refl; ceiling = refl; request = refl; queue = refl; messages = refl; entries = refl })
+body_goes_on b x x' a (Hint number m) part g h = subst (λ (y : Stage). GoesOn x.work y.work) (sym h.takes) (record { time = refl; ceiling = refl; request = refl; queue = refl; messages = refl; entries = refl })
+body_goes_on b x x' a (HintAck number) part g h = acked_goes_on b a.from number x x' g h
 
 all_more : {X : Type 0} (P : X → Type 0) (xs : List X) (x : X) → AllByRecursion P xs → P x → AllByRecursion P (xs ++ x ∷ [])
 all_more {X} P [] x all last = (last, tt)
 all_more {X} P (y ∷ ys) x all last = (all.0, all_more P ys x all.1 last)
 
-sound_with : (b : Base) (w : Work) (write : Slot OpenWrite) (read : Slot OpenRead) → IsSound b w → IsSlotOf w.request b.writes.entries write → IsSlotOf w.request b.reads.entries read → (IsNew write → IsNew w.write) → (IsNew read → IsNew w.read)
-    → IsSound b (record w { write = write; read = read })
-sound_with b w write read s at_write at_read new_write new_read = record {
-  write = at_write;
-  read = at_read;
-  queue = s.queue;
-  items = s.items;
-  early = record { write = λ h. s.early.write (new_write h); read = λ h. s.early.read (new_read h) };
-}
+-- an acknowledged write writes what it wrote
+fit_after : (ended : Bool) (id : ReqId) (a : OpenWrite) (xs : List (ReqId × OpenWrite)) → MutationFits a.mutation → FitWrites xs → FitWrites (after_move ended id a xs)
+fit_after true id a xs fits all = all_removed (λ x. MutationFits x.1.mutation) (is_at (request_cmp id)) xs all
+fit_after false id a xs fits all = all_set (λ x. MutationFits x.1.mutation) (is_at (request_cmp id)) xs a (λ k. fits) all
 
-body_sound : (b : Base) (w w' : Work) (a : Asker) (body : Body) (part : Option (List Held)) (g : Given) → w.request ≡ a.request → BodyFits body → IsSound b w → TakesBody b w a body part g w' → IsSound b w'
-body_sound b w w' a (Write m) part g request fits s (gives, is) =
-    subst (λ (x : Work). IsSound b x) (sym is) (record { write = s.write; read = s.read; queue = s.queue; items = all_more (IsDataAt w.time) w.items (Data w.time m) s.items (refl, fits); early = record { write = s.early.write; read = s.early.read } })
-body_sound b w w' a WriteAck part g request fits s (moves, is) =
-    subst (λ (x : Work). IsSound b x) (sym is) (sound_with b w w'.write w.read s (subst (λ (id : ReqId). IsSlotOf id b.writes.entries w'.write) (sym request) moves.back) s.read moves.new (λ h. h))
-body_sound b w w' a (Read q) part g request fits s (gives, is) = subst (λ (x : Work). IsSound b x) (sym is) s
-body_sound b w w' a (ReadReply content) part g request fits s (moves, is) =
-    subst (λ (x : Work). IsSound b x) (sym is) (sound_with b w w.write w'.read s s.write (subst (λ (id : ReqId). IsSlotOf id b.reads.entries w'.read) (sym request) moves.back) (λ h. h) moves.new)
+fit_acked : (c : Setting) (id : ReqId) (from : ℕ) (xs xs' : List (ReqId × OpenWrite)) (o : Option OpenWrite) (turn : Move) → open_at xs id ≡ o → Takes (HearsAck c id from) id xs o turn xs' → FitWrites xs → FitWrites xs'
+fit_acked c id from xs xs' None turn there h all = subst FitWrites (sym h.1) all
+fit_acked c id from xs xs' (Some w) turn there (w', step, after) all =
+    let fits : MutationFits w.mutation = all_at (λ x. MutationFits x.1.mutation) (λ y. MutationFits y.mutation) xs id w (λ k y h. h) all there in
+    subst FitWrites (sym after) (fit_after turn.ended id w' xs (subst (λ (y : OpenWrite). MutationFits y.mutation) (sym step.1) fits) all)
+
+changes_sound : (b : Base) (x x' : Stage) (a : Asker) (m : Mutation) (ack : Body) (g : Given) → MutationFits m → IsSound b x.work → TakesChanges a m ack x g x' → IsSound b x'.work
+changes_sound b x x' a m ack g fits s h = subst (λ (y : Stage). IsSound b y.work) (sym h.takes) (record {
+  write = s.write;
+  read = s.read;
+  queue = s.queue;
+  taken = all_more (IsDataAt x.work.time) x.work.taken (Data x.work.time m) s.taken (refl, fits);
+  made = s.made;
+  gone = s.gone;
+  early = record { write = s.early.write; read = s.early.read };
+  fits = s.fits;
+  counted = record { writes = s.counted.writes; reads = s.counted.reads; unanswered = s.counted.unanswered; open_reads = s.counted.open_reads };
+})
+
+body_sound : (b : Base) (x x' : Stage) (a : Asker) (body : Body) (part : Option (List Held)) (g : Given) → x.work.request ≡ a.request → BodyFits body → IsSound b x.work → TakesBody b x a body part g x' → IsSound b x'.work
+body_sound b x x' a (Write m) part g request fits s h = changes_sound b x x' a m WriteAck g fits s h
+body_sound b x x' a WriteAck part g request fits s (moves, is) =
+    let here : AckMoves b.setting x.work.request a.from (left_writes b x.work) x.work.write g x'.work.write = subst (λ (id : ReqId). AckMoves b.setting id a.from (left_writes b x.work) x.work.write g x'.work.write) (sym request) moves in
+    subst (λ (y : Stage). IsSound b y.work) (sym is) (record {
+      write = here.back;
+      read = s.read;
+      queue = s.queue;
+      taken = s.taken;
+      made = s.made;
+      gone = s.gone;
+      early = record { write = λ h. s.early.write (here.new h); read = s.early.read };
+      fits = fit_acked b.setting x.work.request a.from (with_slot x.work.request x.work.write (left_writes b x.work)) (with_slot x.work.request x'.work.write (left_writes b x.work)) (open_at (with_slot x.work.request x.work.write (left_writes b x.work)) x.work.request) here.turn refl here.moves s.fits;
+      counted = record { writes = s.counted.writes; reads = s.counted.reads; unanswered = s.counted.unanswered; open_reads = s.counted.open_reads };
+    })
+body_sound b x x' a (Read q) part g request fits s (gives, is) = subst (λ (y : Stage). IsSound b y.work) (sym is) s
+body_sound b x x' a (ReadReply content) part g request fits s (moves, is) =
+    let here : ReplyMoves b.setting x.work.request a.from content (left_reads b x.work) x.work.read g x'.work.read = subst (λ (id : ReqId). ReplyMoves b.setting id a.from content (left_reads b x.work) x.work.read g x'.work.read) (sym request) moves in
+    subst (λ (y : Stage). IsSound b y.work) (sym is) (record {
+      write = s.write;
+      read = here.back;
+      queue = s.queue;
+      taken = s.taken;
+      made = s.made;
+      gone = s.gone;
+      early = record { write = s.early.write; read = λ h. s.early.read (here.new h) };
+      fits = s.fits;
+      counted = record { writes = s.counted.writes; reads = s.counted.reads; unanswered = s.counted.unanswered; open_reads = s.counted.open_reads };
+    })
+body_sound b x x' a (Hint number m) part g request fits s h = changes_sound b x x' a m (HintAck number) g fits s h
+body_sound b x x' a (HintAck number) part g request fits s h = acked_sound b a.from number x x' g s h
 
 -- ---- a body that is heard, and one that is too old
 
-young : (c : Setting) (m : Incoming) (old : Bool) (s : NodeState) (o : Effects) (s' : NodeState) → old ≡ false → HearsBody c (asker_of m) m.body s o s' → MatchBool old ((o ≡ nothing) × (s' ≡ s)) (HearsBody c (asker_of m) m.body s o s')
-young c m old s o s' is h = subst (λ (x : Bool). MatchBool x ((o ≡ nothing) × (s' ≡ s)) (HearsBody c (asker_of m) m.body s o s')) (sym is) h
-
-pub heard_young : (b : Base) (honest : Type 0) (d : Durable) (w w' : Work) (h : Heard) (part : Option (List Held)) (g : Given) → is_old b.setting w.time h.born ≡ false → IsSound b w → h.request ≡ w.request → BodyFits h.body
-    → (honest → IsReadFor w.items d h.body part) → TakesBody b w (record { from = h.from; request = h.request }) h.body part g w' → IsHeard b honest d w h g w'
-heard_young b honest d w w' h part g fresh s request fits read takes =
+pub heard_young : (b : Base) (honest : Type 0) (d : Durable) (x x' : Stage) (h : Heard) (part : Option (List Held)) (g : Given) → is_old b.setting x.work.time h.born ≡ false → IsSound b x.work → h.request ≡ x.work.request → BodyFits h.body
+    → IsOfOther b.me h.from h.body → (honest → IsReadFor x.work.taken d h.body part) → TakesBody b x (record { from = h.from; request = h.request }) h.body part g x' → IsHeard b honest d x h g x'
+heard_young b honest d x x' h part g fresh s request fits other read takes =
     let a : Asker = record { from = h.from; request = h.request } in
-    let gives = body_gives b w w' a h.body part g takes in
-    let stays = body_stays b w w' a h.body part g takes in
+    let gives = body_gives b x x' a h.body part g other takes in
     record {
-      moves = λ is_honest d' commits.
-          let moved = body_moves b d w w' a h.body part g (sym request) takes (read is_honest) d' commits in
-          (moved.0, moved.1, young b.setting (incoming h) (is_old b.setting w.time h.born) (state_at b moved.0 w) (effects_given g) (state_at b d' w') fresh moved.2);
-      goes_on = record {
-        time = stays.time;
-        ceiling = stays.ceiling;
-        request = stays.request;
-        queue = stays.queue;
-        messages = stays.messages;
-        entries = stays.entries;
-        items = body_items b w w' a h.body part g takes ∙ ap (λ (old : Bool). w.items ++ (if old then [] else data_of w.time h.body)) (sym fresh);
-      };
-      sound = body_sound b w w' a h.body part g (sym request) fits s takes;
-      sends = gives.sends;
+      moves = λ is k same. body_moved b d k x x' a h.born h.body part g fresh same (sym request) takes (read is);
+      goes_on = body_goes_on b x x' a h.body part g takes;
+      sound = body_sound b x x' a h.body part g (sym request) fits s takes;
+      own = gives.own;
       lighter = gives.lighter;
       quiet = gives.quiet;
     }
@@ -261,26 +319,36 @@ heavy (Write m) = omega arith
 heavy WriteAck = omega arith
 heavy (Read q) = omega arith
 heavy (ReadReply content) = omega arith
+heavy (Hint number m) = omega arith
+heavy (HintAck number) = omega arith
 
-pub heard_old : (b : Base) (honest : Type 0) (d : Durable) (w : Work) (h : Heard) (g : Given) → is_old b.setting w.time h.born ≡ true → IsSound b w → g.sends ≡ [] → g.entries ≡ [] → IsHeard b honest d w h g w
-heard_old b honest d w h g old s sends entries = record {
-  moves = λ is_honest d' commits. (
-    d',
-    commits,
-    subst (λ (x : Bool). MatchBool x ((effects_given g ≡ nothing) × (state_at b d' w ≡ state_at b d' w)) (HearsBody b.setting (asker_of (incoming h)) h.body (state_at b d' w) (effects_given g) (state_at b d' w))) (sym old)
-        (ap (λ (xs : List Outbound). let o : Effects = record { sends = xs; entries = g.entries } in o) sends ∙ ap (λ (xs : List Entry). let o : Effects = record { sends = []; entries = xs } in o) entries, refl),
-  );
-  goes_on = record {
-    time = refl;
-    ceiling = refl;
-    request = refl;
-    queue = refl;
-    messages = refl;
-    entries = refl;
-    items = sym (append-nil w.items) ∙ ap (λ (x : Bool). w.items ++ (if x then [] else data_of w.time h.body)) (sym old);
-  };
+nothing_given : (g : Given) → g.sends ≡ [] → g.entries ≡ [] → effects_given g ≡ nothing
+nothing_given g sends entries = ap (λ (xs : List Outbound). let o : Effects = record { sends = xs; entries = g.entries } in o) sends ∙ ap (λ (xs : List Entry). let o : Effects = record { sends = []; entries = xs } in o) entries
+
+old_moved : (b : Base) (d : Durable) (k : KeptHints) (x : Stage) (h : Heard) (g : Given) → is_old b.setting x.work.time h.born ≡ true → IsSameHints k x.hints → g.sends ≡ [] → g.entries ≡ [] → Moved b d k x (heard_act h) g x
+old_moved b d k x h g old same sends entries = record {
+  kept = k;
+  same = same;
+  taken = [];
+  made = [];
+  gone = [];
+  takes = sym (append-nil x.work.taken);
+  makes = sym (append-nil x.work.made);
+  loses = sym (append-nil x.work.gone);
+  brings = ap (λ (t : Bool). if t then [] else data_of x.work.time h.body) old;
+  moves = moves_quietly b.setting b.me (loaded d) x.work.ceiling x.work.taken k (forgotten_in b x.work) (forgotten_in b x.work) (heard_act h) (effects_given g)
+      (λ e commits.
+      let s = state_at b k e x.work in
+      subst (λ (t : Bool). MatchBool t ((effects_given g ≡ nothing) × (s ≡ s)) (HearsBody b.setting b.me (record { from = h.from; request = h.request }) h.body s (effects_given g) s)) (sym old) (nothing_given g sends entries, refl))
+      (λ e. (refl, ap (λ (t : Bool). if t then [] else gone_by_body (record { from = h.from; request = h.request }) h.body (state_at b k e x.work)) old));
+}
+
+pub heard_old : (b : Base) (honest : Type 0) (d : Durable) (x : Stage) (h : Heard) (g : Given) → is_old b.setting x.work.time h.born ≡ true → IsSound b x.work → g.sends ≡ [] → g.entries ≡ [] → IsHeard b honest d x h g x
+heard_old b honest d x h g old s sends entries = record {
+  moves = λ is k same. old_moved b d k x h g old same sends entries;
+  goes_on = record { time = refl; ceiling = refl; request = refl; queue = refl; messages = refl; entries = refl };
   sound = s;
-  sends = subst (λ (xs : List Outbound). AreOf h.request xs) (sym sends) (record { requests = tt; fit = tt });
-  lighter = subst (λ (xs : List Outbound). weight xs < weight_of h.body) (sym sends) (heavy h.body);
+  own = subst (λ (xs : List Outbound). AllByRecursion (IsOwn b.me h.request) (own_sent b.me xs)) (sym sends) tt;
+  lighter = subst (λ (xs : List Outbound). weight (own_sent b.me xs) < weight_of h.body) (sym sends) (heavy h.body);
   quiet = ap (filter is_entered_at_stop) entries;
 }

@@ -1,10 +1,7 @@
 -- The entry of a step: it can be written, its changes came at one time, and what it makes of what is kept.
-use Rattle.std.proofs.Common.{◌≡◌, inl, ℕ, zero, suc, ◌<◌, ◌≤◌, ◌-◌, ◌^◌, Bool, true, false, List, [], ◌∷◌, ◌++◌, append-nil, length, get_or, refl, sym, ap, subst, ◌∙◌, arith}
+use Rattle.std.proofs.Common.{◌≡◌, inl, ℕ, zero, suc, ◌<◌, ◌≤◌, ◌^◌, Bool, true, false, List, [], ◌∷◌, ◌++◌, length, get_or, refl, sym, ap, subst, arith}
 use Rattle.std.specs.Prelude.{◌==◌, if◌then◌else◌}
 use Rattle.std.specs.List.{AllByRecursion}
-use Rattle.std.proofs.lemmas.Bool.{eqb-true}
-use Rattle.std.proofs.lemmas.List.{length-append}
-use Rattle.std.proofs.lemmas.List.Sorted.{IsNonDecreasingBy-push}
 use Rattle.changes.specs.declared.Partition.{Partition}
 use Rattle.cs_store.specs.Disk.{Disk}
 use Rattle.row_change.specs.declared.entry.LogEntry.{LogEntry}
@@ -12,31 +9,42 @@ use Rattle.row_change.specs.declared.entry.LogItem.{LogItem}
 use Rattle.row_change.specs.declared.entry.LogItem.TheVariants.{Data, Paxos, HintAdd, HintGone, Ceiling, Mark, Purge}
 use Rattle.row_change.specs.Grammar.{kind_of, AreByKind}
 use Rattle.row_change.specs.Spelling.{EntryFits, ItemFits}
-use Rattle.durable_state.specs.State.{Durable, IsSameKept, Stored}
-use Rattle.durable_state.specs.Keeping.{Commits, IsWithOrWithout, TakesItem}
-use Rattle.durable_state.proofs.Entries.{commits_parts}
+use Rattle.durable_state.specs.State.{Durable, IsSameKept}
+use Rattle.durable_state.specs.Keeping.{Commits, IsWithOrWithout}
 use Rattle.node_steps.specs.Keeping.{ceiling_in}
-use Rattle.replica.specs.declared.kept.Kept.{Kept}
-use Rattle.replica.specs.Kept.{ArriveAllAt, ArrivesAt, IsKeptAfter, IsKeptOf, IsNoPurge, PurgeNothing}
+use Rattle.replica.specs.Kept.{ArriveAllAt, ArrivesAt, IsNoPurge, PurgeNothing}
 use Rattle.replica.specs.Finding.{AlwaysLeaves, IsSafe}
 use Rattle.replica.specs.Lengths.{IsFirstTooLarge}
 use Rattle.replica.proofs.Fronts.{leaves_more, leaves_still}
+use Rattle.node_core.specs.declared.base.Base.{Base}
+use Rattle.node_core.specs.declared.work.Work.{Work}
+use Rattle.node_core.specs.Memory.{entry_made}
 use Rattle.node_core.specs.Nodes.{HasRoom, OverflowsLog}
-use Rattle.node_core.specs.Working.{IsDataAt}
+use Rattle.node_core.specs.Working.{IsDataAt, IsGone, IsMade, IsSound}
 
--- ---- changes, and then a ceiling
+-- ---- by kind: changes, hints that come, hints that go, and then a ceiling
 
 abbrev ceiling_if : Bool → ℕ → List LogItem
 ceiling_if same n = if same then [] else Ceiling n ∷ []
 
-all_with : (P : LogItem → Type 0) (xs : List LogItem) (same : Bool) (n : ℕ) → AllByRecursion P xs → P (Ceiling n) → AllByRecursion P (xs ++ ceiling_if same n)
-all_with P [] true n all last = tt
-all_with P [] false n all last = (last, tt)
-all_with P (x ∷ xs) same n all last = (all.0, all_with P xs same n all.1 last)
+all_join : {X : Type 0} (P : X → Type 0) (xs ys : List X) → AllByRecursion P xs → AllByRecursion P ys → AllByRecursion P (xs ++ ys)
+all_join {X} P [] ys a b = b
+all_join {X} P (x ∷ xs) ys a b = (a.0, all_join P xs ys a.1 b)
 
 all_as : (P Q : LogItem → Type 0) (xs : List LogItem) → ((x : LogItem) → P x → Q x) → AllByRecursion P xs → AllByRecursion Q xs
 all_as P Q [] to all = tt
 all_as P Q (x ∷ xs) to all = (to x all.0, all_as P Q xs to all.1)
+
+all_ceiling : (P : LogItem → Type 0) (same : Bool) (n : ℕ) → P (Ceiling n) → AllByRecursion P (ceiling_if same n)
+all_ceiling P true n last = tt
+all_ceiling P false n last = (last, tt)
+
+-- what holds of each kind
+entry_all : (P : LogItem → Type 0) (b : Base) (w : Work) (before : ℕ) → ((x : LogItem) → IsDataAt w.time x → P x) → ((x : LogItem) → IsMade x → P x) → ((x : LogItem) → IsGone x → P x) → P (Ceiling w.ceiling) → IsSound b w
+    → AllByRecursion P (entry_made before w)
+entry_all P b w before came made gone last s =
+    all_join P w.taken _ (all_as (IsDataAt w.time) P w.taken came s.taken)
+    (all_join P (w.made ++ w.gone) _ (all_join P w.made w.gone (all_as IsMade P w.made made s.made) (all_as IsGone P w.gone gone s.gone)) (all_ceiling P (before == w.ceiling) w.ceiling last))
 
 data_fits : (t : ℕ) (x : LogItem) → IsDataAt t x → ItemFits x
 data_fits t (Data arrival m) h = h.1
@@ -65,14 +73,6 @@ data_stays t (Ceiling n) h = absurd h
 data_stays t (Mark m) h = absurd h
 data_stays t (Purge x) h = absurd h
 
-pub entry_arrives : (t : ℕ) (xs entry : List LogItem) (a b : ℕ) → entry ≡ xs ++ ceiling_in a b → AllByRecursion (IsDataAt t) xs → ArriveAllAt t entry
-entry_arrives t xs entry a b is all = subst (λ (ys : List LogItem). ArriveAllAt t ys) (sym is) (all_with (ArrivesAt t) xs (a == b) b (all_as (IsDataAt t) (ArrivesAt t) xs (data_arrives t) all) tt)
-
-pub entry_purges : (t : ℕ) (xs entry : List LogItem) (a b : ℕ) → entry ≡ xs ++ ceiling_in a b → AllByRecursion (IsDataAt t) xs → PurgeNothing entry
-entry_purges t xs entry a b is all = subst (λ (ys : List LogItem). PurgeNothing ys) (sym is) (all_with IsNoPurge xs (a == b) b (all_as (IsDataAt t) IsNoPurge xs (data_stays t) all) tt)
-
--- ---- by kind
-
 data_kind : (t : ℕ) (x : LogItem) → IsDataAt t x → kind_of x ≡ 1
 data_kind t (Data arrival m) h = refl
 data_kind t (Paxos p row) h = absurd h
@@ -82,91 +82,92 @@ data_kind t (Ceiling n) h = absurd h
 data_kind t (Mark m) h = absurd h
 data_kind t (Purge x) h = absurd h
 
-abbrev AreData : List LogItem → Type 0
-AreData xs = AllByRecursion (λ x. kind_of x ≡ 1) xs
+-- of hints, what stands in the entry
+record Stands (t n : ℕ) (x : LogItem) : Type 0 where
+  pub fits : ItemFits x
+  pub arrives : ArrivesAt t x
+  pub stays : IsNoPurge x
+  pub kind : kind_of x ≡ n
 
-kind_at : (xs : List LogItem) → AreData xs → (i : ℕ) (d : LogItem) → i < length xs → kind_of (get_or xs i d) ≡ 1
-kind_at [] all i d lt = absurd (omega (arith, lt))
-kind_at (x ∷ xs) all zero d lt = all.0
-kind_at (x ∷ xs) all (suc i) d lt = kind_at xs all.1 i d (omega (arith, lt))
+made_stands : (t : ℕ) (x : LogItem) → IsMade x → Stands t 3 x
+made_stands t (Data arrival m) h = absurd h
+made_stands t (Paxos p row) h = absurd h
+made_stands t (HintAdd hint) h = record { fits = h; arrives = tt; stays = tt; kind = refl }
+made_stands t (HintGone peer number) h = absurd h
+made_stands t (Ceiling n) h = absurd h
+made_stands t (Mark m) h = absurd h
+made_stands t (Purge x) h = absurd h
 
-data_by_kind : (xs : List LogItem) → AreData xs → AreByKind xs
-data_by_kind xs all i j d le lt =
-    let first = kind_at xs all i d (omega (arith, le, lt)) in
-    let second = kind_at xs all j d lt in
-    omega (arith, first, second)
+gone_stands : (t : ℕ) (x : LogItem) → IsGone x → Stands t 4 x
+gone_stands t (Data arrival m) h = absurd h
+gone_stands t (Paxos p row) h = absurd h
+gone_stands t (HintAdd hint) h = absurd h
+gone_stands t (HintGone peer number) h = record { fits = tt; arrives = tt; stays = tt; kind = refl }
+gone_stands t (Ceiling n) h = absurd h
+gone_stands t (Mark m) h = absurd h
+gone_stands t (Purge x) h = absurd h
 
-by_kind : (xs : List LogItem) (same : Bool) (n : ℕ) → AreData xs → AreByKind (xs ++ ceiling_if same n)
-by_kind xs true n all = subst AreByKind (sym (append-nil xs)) (data_by_kind xs all)
-by_kind xs false n all = IsNonDecreasingBy-push kind_of xs (Ceiling n) (data_by_kind xs all) (λ d some. let last = kind_at xs all (length xs - 1) d (omega (arith, some)) in omega (arith, last))
+pub entry_arrives : (b : Base) (w : Work) (entry : List LogItem) (before : ℕ) → entry ≡ entry_made before w → IsSound b w → ArriveAllAt w.time entry
+entry_arrives b w entry before is s =
+    subst (λ (ys : List LogItem). ArriveAllAt w.time ys) (sym is)
+    (entry_all (ArrivesAt w.time) b w before (data_arrives w.time) (λ x h. (made_stands w.time x h).arrives) (λ x h. (gone_stands w.time x h).arrives) tt s)
 
-ceiling_few : (same : Bool) (n : ℕ) → length (ceiling_if same n) ≤ 1
-ceiling_few true n = omega arith
-ceiling_few false n = omega arith
+pub entry_purges : (b : Base) (w : Work) (entry : List LogItem) (before : ℕ) → entry ≡ entry_made before w → IsSound b w → PurgeNothing entry
+entry_purges b w entry before is s =
+    subst (λ (ys : List LogItem). PurgeNothing ys) (sym is) (entry_all IsNoPurge b w before (data_stays w.time) (λ x h. (made_stands w.time x h).stays) (λ x h. (gone_stands w.time x h).stays) tt s)
 
-few_is_short : (n : ℕ) → n ≤ 3 → n < 2 ^ 32
-few_is_short n h = omega arith
+-- ---- in the order of kinds
 
-pub entry_fits : (t : ℕ) (xs : List LogItem) (entry : LogEntry) (a b : ℕ) → entry.items ≡ xs ++ ceiling_in a b → AllByRecursion (IsDataAt t) xs → length xs ≤ 2 → EntryFits entry
-entry_fits t xs entry a b is all few = record {
-  count = few_is_short (length entry.items) (
-      let split = ap (λ (ys : List LogItem). length ys) is ∙ length-append xs (ceiling_in a b) in
-      let last = ceiling_few (a == b) b in
-      omega arith
-      );
-  each = subst (λ (ys : List LogItem). AllByRecursion ItemFits ys) (sym is) (all_with ItemFits xs (a == b) b (all_as (IsDataAt t) ItemFits xs (data_fits t) all) tt);
-  order = subst (λ (ys : List LogItem). AreByKind ys) (sym is) (by_kind xs (a == b) b (all_as (IsDataAt t) (λ x. kind_of x ≡ 1) xs (data_kind t) all));
+abbrev AreOf : ℕ → List LogItem → Type 0
+AreOf n xs = AllByRecursion (λ x. kind_of x ≡ n) xs
+
+-- the kinds rise from here
+abbrev Rise : ℕ → List LogItem → Type 0
+Rise n [] = Unit {0}
+Rise n (x ∷ xs) = (n ≤ kind_of x) × Rise (kind_of x) xs
+
+rise_from : (m n : ℕ) (xs : List LogItem) → m ≤ n → Rise n xs → Rise m xs
+rise_from m n [] le h = tt
+rise_from m n (x ∷ xs) le h = let above = h.0 in (omega (arith, le, above), h.1)
+
+then_rise : (m n : ℕ) (xs ys : List LogItem) → m ≤ n → AreOf n xs → Rise n ys → Rise m (xs ++ ys)
+then_rise m n [] ys le of h = rise_from m n ys le h
+then_rise m n (x ∷ xs) ys le of h = let is = of.0 in (omega (arith, le, is), then_rise (kind_of x) n xs ys (omega (arith, is)) of.1 h)
+
+ceiling_rises : (b : Bool) (n : ℕ) → Rise 4 (ceiling_if b n)
+ceiling_rises true n = tt
+ceiling_rises false n = (omega arith, tt)
+
+above_first : (n : ℕ) (xs : List LogItem) → Rise n xs → (i : ℕ) (d : LogItem) → i < length xs → n ≤ kind_of (get_or xs i d)
+above_first n [] h i d lt = absurd (omega (arith, lt))
+above_first n (x ∷ xs) h zero d lt = h.0
+above_first n (x ∷ xs) h (suc i) d lt = let first = h.0 in let rest = above_first (kind_of x) xs h.1 i d (omega (arith, lt)) in omega (arith, first, rest)
+
+in_order : (n : ℕ) (xs : List LogItem) → Rise n xs → (i j : ℕ) (d : LogItem) → i ≤ j → j < length xs → kind_of (get_or xs i d) ≤ kind_of (get_or xs j d)
+in_order n [] h i j d le lt = absurd (omega (arith, lt))
+in_order n (x ∷ xs) h zero zero d le lt = omega arith
+in_order n (x ∷ xs) h zero (suc j) d le lt = above_first (kind_of x) xs h.1 j d (omega (arith, lt))
+in_order n (x ∷ xs) h (suc i) zero d le lt = absurd (omega (arith, le))
+in_order n (x ∷ xs) h (suc i) (suc j) d le lt = in_order (kind_of x) xs h.1 i j d (omega (arith, le)) (omega (arith, lt))
+
+append_both : {X : Type 0} (xs ys zs : List X) → xs ++ (ys ++ zs) ≡ (xs ++ ys) ++ zs
+append_both {X} [] ys zs = refl
+append_both {X} (x ∷ xs) ys zs = ap (λ (rest : List X). x ∷ rest) (append_both xs ys zs)
+
+by_kind : (b : Base) (w : Work) (before : ℕ) → IsSound b w → AreByKind (entry_made before w)
+by_kind b w before s =
+    let last : Rise 3 (w.gone ++ ceiling_in before w.ceiling) =
+    then_rise 3 4 w.gone _ (omega arith) (all_as IsGone (λ x. kind_of x ≡ 4) w.gone (λ x h. (gone_stands w.time x h).kind) s.gone) (ceiling_rises (before == w.ceiling) w.ceiling) in
+    let hints : Rise 1 (w.made ++ (w.gone ++ ceiling_in before w.ceiling)) = then_rise 1 3 w.made _ (omega arith) (all_as IsMade (λ x. kind_of x ≡ 3) w.made (λ x h. (made_stands w.time x h).kind) s.made) last in
+    let grouped : Rise 1 ((w.made ++ w.gone) ++ ceiling_in before w.ceiling) = subst (λ (xs : List LogItem). Rise 1 xs) (append_both w.made w.gone (ceiling_in before w.ceiling)) hints in
+    in_order 1 (entry_made before w) (then_rise 1 1 w.taken _ (omega arith) (all_as (IsDataAt w.time) (λ x. kind_of x ≡ 1) w.taken (data_kind w.time) s.taken) grouped)
+
+pub entry_fits : (b : Base) (w : Work) (entry : LogEntry) (before : ℕ) → entry.items ≡ entry_made before w → length entry.items < 2 ^ 32 → IsSound b w → EntryFits entry
+entry_fits b w entry before is few s = record {
+  count = few;
+  each = subst (λ (ys : List LogItem). AllByRecursion ItemFits ys) (sym is) (entry_all ItemFits b w before (data_fits w.time) (λ x h. (made_stands w.time x h).fits) (λ x h. (gone_stands w.time x h).fits) tt s);
+  order = subst (λ (ys : List LogItem). AreByKind ys) (sym is) (by_kind b w before s);
 }
-
--- ---- what it makes of what is kept
-
-data_same : (t : ℕ) (x : LogItem) (d d' : Durable) → IsDataAt t x → TakesItem x d d' → d' ≡ record d { content = d'.content }
-data_same t (Data arrival m) d d' are takes = takes.2
-data_same t (Paxos p row) d d' are takes = absurd are
-data_same t (HintAdd hint) d d' are takes = absurd are
-data_same t (HintGone peer number) d d' are takes = absurd are
-data_same t (Ceiling n) d d' are takes = absurd are
-data_same t (Mark m) d d' are takes = absurd are
-data_same t (Purge x) d d' are takes = absurd are
-
--- changes change nothing but the content
-pub data_all : (t : ℕ) (xs : List LogItem) (d d' : Durable) → AllByRecursion (IsDataAt t) xs → Commits xs d d' → d' ≡ record d { content = d'.content }
-data_all t [] d d' all is = is ∙ ap (λ (e : Durable). record d { content = e.content }) (sym is)
-data_all t (x ∷ xs) d d' all (mid, takes, more) =
-    let rest = data_all t xs mid d' all.1 more in
-    let first = data_same t x d mid all.0 takes in
-    rest ∙ ap (λ (e : Durable). let y : Durable = record e { content = d'.content } in y) first
-
-raised_by : (same : Bool) (old n : ℕ) (mid d : Durable) → (old == n) ≡ same → mid.ceiling ≡ old → Commits (ceiling_if same n) mid d → d ≡ record mid { ceiling = n }
-raised_by true old n mid d same at is = is ∙ ap (λ (x : ℕ). let y : Durable = record mid { ceiling = x } in y) (at ∙ eqb-true old n same)
-raised_by false old n mid d same at (next, takes, is) = is ∙ takes
-
--- what the changes make, and then the ceiling
-pub record Splits (xs : List LogItem) (n : ℕ) (d d' : Durable) : Type 0 where
-  pub mid : Durable
-  pub made : Commits xs d mid
-  pub raised : d' ≡ record mid { ceiling = n }
-  pub same : mid ≡ record d { content = mid.content }
-
-pub splits : (t : ℕ) (xs : List LogItem) (old n : ℕ) (d d' : Durable) → AllByRecursion (IsDataAt t) xs → old ≡ d.ceiling → Commits (xs ++ ceiling_in old n) d d' → Splits xs n d d'
-splits t xs old n d d' all at commits =
-    let parts = commits_parts xs (ceiling_in old n) d d' commits in
-    let same = data_all t xs d parts.0 all parts.1 in
-    record {
-      mid = parts.0;
-      made = parts.1;
-      raised = raised_by (old == n) old n parts.0 d' refl (ap (λ (e : Durable). e.ceiling) same ∙ sym at) parts.2;
-      same = same;
-    }
-
-kept_of : (d : Durable) (kept : Kept) (content : List Stored) (n : ℕ) → IsKeptOf d kept → IsKeptOf (record d { content = content; ceiling = n }) (record kept { ceiling = n })
-kept_of d kept content n h = record { ceiling = refl; rows = h.rows; hints = h.hints; numbers = h.numbers; marks = h.marks }
-
-pub kept_after : (t : ℕ) (xs entry : List LogItem) (n : ℕ) (d : Durable) (kept : Kept) → entry ≡ xs ++ ceiling_in kept.ceiling n → AllByRecursion (IsDataAt t) xs → IsKeptOf d kept → IsKeptAfter entry d (record kept { ceiling = n })
-kept_after t xs entry n d kept is all h d' commits =
-    let s = splits t xs kept.ceiling n d d' all h.ceiling (subst (λ (ys : List LogItem). Commits ys d d') is commits) in
-    let whole : d' ≡ record d { content = s.mid.content; ceiling = n } = s.raised ∙ ap (λ (e : Durable). let y : Durable = record e { ceiling = n } in y) s.same in
-    subst (λ (e : Durable). IsKeptOf e (record kept { ceiling = n })) (sym whole) (kept_of d kept s.mid.content n h)
 
 -- ---- under the entry's own name
 

@@ -1,6 +1,10 @@
 mod Ordered
 mod Sending
 mod Slots
+mod LeftOpen
+mod DueKeys
+mod Passing
+mod Hinting
 mod Asking
 mod Bodies
 mod Reading
@@ -16,3 +20,4 @@ mod Answered
 mod Running
 mod Refusing
 mod Ending
+mod Loading

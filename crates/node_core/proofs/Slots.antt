@@ -18,7 +18,7 @@ use Rattle.node_core.specs.declared.slot.Found.{Found}
 use Rattle.node_core.specs.declared.slot.Slot.{Slot}
 use Rattle.node_core.specs.declared.slot.Slot.TheVariants.{Untouched, New, Old, Gone}
 use Rattle.node_core.specs.declared.work.Given.{Given}
-use Rattle.node_core.specs.Slots.{IsFound, IsNew, slot_after}
+use Rattle.node_core.specs.Slots.{IsFound, TakesNew, IsNew, slot_after}
 use Rattle.node_core.specs.Working.{with_slot, IsSlotOf}
 use Rattle.node_core.specs.Hearing.{Opens, Moves}
 
@@ -110,7 +110,7 @@ pub request_itself : (id : ReqId) → is_eq (request_cmp id id) ≡ true
 request_itself id = ap is_eq (tied_itself request_total id)
 
 -- a request that was taken out is not open
-gone_is_none : {A : Type 0} (id : ReqId) (m : BTreeMap ReqId A) → IsOrdered request_cmp m → open_at (remove_entry (is_at (request_cmp id)) m.entries) id ≡ None
+pub gone_is_none : {A : Type 0} (id : ReqId) (m : BTreeMap ReqId A) → IsOrdered request_cmp m → open_at (remove_entry (is_at (request_cmp id)) m.entries) id ≡ None
 gone_is_none {A} id m ordered =
     let laws = eq_by_cmp_equiv request_total in
     lookup-remove_entry laws (is_at (request_cmp id)) (λ x y same. laws.congr id x y same) id m.entries (IsDistinct-from_sorted request_cmp (keys_of m.entries) ordered)
@@ -178,11 +178,11 @@ taken_opens {A} id xs Gone slot' f is h = absurd (some_not_none f h.0)
 untouched_gone : {A : Type 0} → let u : Slot A = Untouched in u ≡ Gone → ⊥
 untouched_gone {A} e = cc
 
-pub taken_gone : {A : Type 0} (id : ReqId) (m : BTreeMap ReqId A) (slot slot' : Slot A) → IsOrdered request_cmp m → IsFound slot None slot' → slot' ≡ Gone → (open_at (with_slot id slot m.entries) id ≡ None) × (slot' ≡ slot)
-taken_gone {A} id m Untouched slot' ordered h gone = absurd (untouched_gone (sym h.1 ∙ gone))
-taken_gone {A} id m (New a) slot' ordered h gone = absurd (some_not_none _ (sym h.0))
-taken_gone {A} id m (Old a) slot' ordered h gone = absurd (some_not_none _ (sym h.0))
-taken_gone {A} id m Gone slot' ordered h gone = (gone_is_none id m ordered, h.1)
+pub taken_gone : {A : Type 0} (id : ReqId) (xs : List (ReqId × A)) (slot slot' : Slot A) → open_at (remove_entry (is_at (request_cmp id)) xs) id ≡ None → IsFound slot None slot' → slot' ≡ Gone → (open_at (with_slot id slot xs) id ≡ None) × (slot' ≡ slot)
+taken_gone {A} id xs Untouched slot' none h gone = absurd (untouched_gone (sym h.1 ∙ gone))
+taken_gone {A} id xs (New a) slot' none h gone = absurd (some_not_none _ (sym h.0))
+taken_gone {A} id xs (Old a) slot' none h gone = absurd (some_not_none _ (sym h.0))
+taken_gone {A} id xs Gone slot' none h gone = (none, h.1)
 
 pub taken_untouched : {A : Type 0} (slot slot' : Slot A) → IsFound slot None slot' → (slot' ≡ Gone → ⊥) → (slot ≡ Untouched) × (slot' ≡ slot)
 taken_untouched {A} Untouched slot' h other = (refl, h.1)
@@ -217,3 +217,17 @@ moves_none {A} Step id xs slot slot' g none same is sends entries = record {
   back = subst (λ (s : Slot A). IsSlotOf id xs s) (sym same) is;
   new = subst (λ (s : Slot A). IsNew s → IsNew slot) (sym same) (λ h. h);
 }
+
+-- one that the step has not touched, and that is done with by this move
+pub moves_last : {A : Type 0} (Step : A → Move → A → Type 0) (id : ReqId) (xs : List (ReqId × A)) (slot slot' : Slot A) (turn : Move) (a : A) (g : Given) → slot ≡ Untouched → open_at xs id ≡ Some a → Step a turn a → turn.ended ≡ true → slot' ≡ Gone
+    → g.sends ≡ turn.sends → g.entries ≡ turn.entries → Moves Step id xs slot g slot'
+moves_last {A} Step id xs slot slot' turn a g untouched there step ended gone sends entries =
+    subst (λ (s : Slot A). Moves Step id xs s g slot') (sym untouched)
+    (moves_made Step id xs Untouched slot' (record { now = a; is_new = false }) turn a g (opens_before id xs a there) step (gone ∙ ap (λ (b : Bool). slot_after false b a) (sym ended)) sends entries)
+
+-- what is taken out as new is what began
+pub new_taken : {A : Type 0} (slot slot' : Slot A) (r : Option A) (a : A) → TakesNew slot r slot' → r ≡ Some a → slot ≡ New a
+new_taken {A} Untouched slot' r a h is = absurd (some_not_none a (sym is ∙ h.0))
+new_taken {A} (New b) slot' r a h is = ap (λ (x : A). let s : Slot A = New x in s) (some_one b a (sym h.0 ∙ is))
+new_taken {A} (Old b) slot' r a h is = absurd (some_not_none a (sym is ∙ h.0))
+new_taken {A} Gone slot' r a h is = absurd (some_not_none a (sym is ∙ h.0))

@@ -1,5 +1,5 @@
 -- How an open request moves that a step is about.
-use Rattle.std.specs.Prelude.{◌≡◌, ℕ, Bool, Option, Some, None, List}
+use Rattle.std.specs.Prelude.{◌≡◌, ℕ, Bool, true, Option, Some, None, List}
 use Rattle.cs_base.specs.declared.ids.ReqId.{ReqId}
 use Rattle.changes.specs.declared.Held.{Held}
 use Rattle.peer_messages.specs.declared.outcome.Move.{Move}
@@ -8,8 +8,10 @@ use Rattle.node_steps.specs.State.{OpenWrite, OpenRead}
 use Rattle.node_steps.specs.Effects.{open_at, after_move, effects_of, AtRequest}
 use Rattle.node_steps.specs.Writes.{HearsAck}
 use Rattle.node_steps.specs.Reads.{HearsReply}
+use Rattle.read_coord.specs.Keeping.{is_last}
 use Rattle.node_core.specs.declared.slot.Found.{Found}
 use Rattle.node_core.specs.declared.slot.Slot.{Slot}
+use Rattle.node_core.specs.declared.slot.Slot.TheVariants.{Untouched}
 use Rattle.node_core.specs.declared.work.Given.{Given}
 use Rattle.node_core.specs.Slots.{slot_after, IsNew}
 use Rattle.node_core.specs.Working.{with_slot, IsSlotOf, effects_given}
@@ -24,6 +26,12 @@ pub record Opens {A : Type 0} (id : ReqId) (xs : List (ReqId × A)) (slot : Slot
 abbrev pub IsOpened : {A : Type 0} → ReqId → List (ReqId × A) → Slot A → Option (Found A) → Slot A → Type 0
 IsOpened {A} id xs slot None slot' = (open_at (with_slot id slot xs) id ≡ None) × (slot' ≡ slot)
 IsOpened {A} id xs slot (Some f) slot' = Opens id xs slot f
+
+-- the step has not touched the open read, and the node's reply is the last that it waits for
+pub record IsLastOpen (c : Setting) (id : ReqId) (from : ℕ) (xs : List (ReqId × OpenRead)) (slot : Slot OpenRead) (r : OpenRead) : Type 0 where
+  pub untouched : slot ≡ Untouched
+  pub there : open_at xs id ≡ Some r
+  pub last : is_last c from r ≡ true
 
 -- the open request takes a move that gives this
 pub record Moves {A : Type 0} (Step : A → Move → A → Type 0) (id : ReqId) (xs : List (ReqId × A)) (slot : Slot A) (g : Given) (slot' : Slot A) : Type 0 where

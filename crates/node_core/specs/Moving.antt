@@ -1,70 +1,95 @@
 -- The moves of a step, one after another, as its code makes them.
-use Rattle.std.specs.Prelude.{◌≡◌, ◌≤◌, ◌<◌, ◌+◌, if◌then◌else◌, ℕ, Bool, Option, Some, None, List, [], ◌∷◌, ◌++◌, length, filter, flat_map, Contains}
+use Rattle.std.specs.Prelude.{◌≡◌, ◌≤◌, ◌<◌, ℕ, Bool, true, false, Option, Some, None, List, [], ◌∷◌, ◌++◌, map, filter, flat_map, Contains}
 use Rattle.std.specs.List.{AllByRecursion}
+use Rattle.std.specs.BTreeMap.{IsOrdered}
 use Rattle.cs_base.specs.declared.ids.ReqId.{ReqId}
+use Rattle.cs_base.specs.Requests.{request_cmp}
 use Rattle.changes.specs.declared.Change.{Change}
 use Rattle.changes.specs.declared.Held.{Held}
 use Rattle.changes.specs.declared.Mutation.{Mutation}
 use Rattle.changes.specs.declared.Query.{Query}
 use Rattle.cs_store.specs.Disk.{Disk}
+use Rattle.row_change.specs.declared.entry.Hint as hint
 use Rattle.row_change.specs.declared.entry.LogItem.{LogItem}
 use Rattle.row_change.specs.declared.entry.LogItem.TheVariants.{Data}
 use Rattle.peer_messages.specs.declared.chronicle.Entry.{Entry}
 use Rattle.peer_messages.specs.declared.event.Ask.{Ask}
 use Rattle.peer_messages.specs.declared.event.What.{What}
-use Rattle.peer_messages.specs.declared.event.What.TheVariants.{Client, Deliver, Alive, Flush, Tick}
+use Rattle.peer_messages.specs.declared.event.What.TheVariants.{Client, Deliver, Alive, Collect, Flush, Tick}
 use Rattle.peer_messages.specs.declared.message.Body.{Body}
-use Rattle.peer_messages.specs.declared.message.Body.TheVariants.{Write, WriteAck, Read, ReadReply}
+use Rattle.peer_messages.specs.declared.message.Body.TheVariants.{Write, WriteAck, Read, ReadReply, Hint, HintAck}
 use Rattle.peer_messages.specs.declared.outcome.Outbound.{Outbound}
 use Rattle.peer_messages.specs.Settings.{marked}
 use Rattle.durable_state.specs.State.{Durable, changes_of}
 use Rattle.durable_state.specs.Taking.{TakesIn}
 use Rattle.durable_state.specs.Keeping.{Commits}
-use Rattle.node_steps.specs.State.{NodeState}
+use Rattle.node_steps.specs.State.{NodeState, OpenWrite, OpenRead, loaded}
 use Rattle.node_steps.specs.Effects.{Effects}
-use Rattle.node_steps.specs.Fitting.{mark_fits}
+use Rattle.node_steps.specs.Hints.{KeptHints}
+use Rattle.node_steps.specs.Leading.{Making, MovesOn}
 use Rattle.node_steps.specs.Replicas.{IsAnswerTo, IsReplyTo, replies as replies_to}
-use Rattle.node_steps.specs.Acts.{Act, Rises, Hears, Asks, Marks, Does, Deed, Chain, request_at}
-use Rattle.node_steps.specs.Steps.{messages_of, sends_of, entries_of}
-use Rattle.node_steps.specs.Keeping.{kept_by, kept_in}
+use Rattle.node_steps.specs.Requests.{unanswered_writes}
+use Rattle.node_steps.specs.Acts.{Act, Rises, Hears, Asks, Marks, DeadlineComes, HintExpires, Deed, Chain, request_at}
+use Rattle.node_steps.specs.Steps.{messages_of, entries_of}
+use Rattle.node_steps.specs.Keeping.{Gone, data_by, add_item, gone_item}
 use Rattle.node_steps.specs.Stops.{is_entered_at_stop}
+use Rattle.hint_store.specs.Staged.{IsSameHints}
 use Rattle.replica.specs.Calls.{Looked}
 use Rattle.node_core.specs.declared.base.Base.{Base}
+use Rattle.node_core.specs.declared.due.DueKey.{DueKey}
 use Rattle.node_core.specs.declared.hearing.Asker.{Asker}
 use Rattle.node_core.specs.declared.work.Given.{Given}
-use Rattle.node_core.specs.declared.work.Heard.{Heard}
 use Rattle.node_core.specs.declared.work.Work.{Work}
+use Rattle.node_core.specs.Asking.{IsUnmoved}
+use Rattle.node_core.specs.Due.{AreDueKeys, AreOwn, act_by}
 use Rattle.node_core.specs.Hearing.{AckMoves, ReplyMoves}
-use Rattle.node_core.specs.Working.{state_at, effects_given, own_acts, heard_act, own_sent, weight_of, weight, BodyFits, IsDataAt, IsSent, IsSound}
+use Rattle.node_core.specs.Hinting.{Stage, at, SendsFirst, HearsHintAck}
+use Rattle.node_core.specs.Leading.{Leads}
+use Rattle.node_core.specs.Working.{Heard, forgotten_in, left_open, effects_given, own_acts, heard_act, own_sent, weight_of, weight, IsOwn, IsPlain, IsDataAt, IsSent, IsSound, FitWrites}
 
--- By one move the node goes from what the step made so far to w', and this is given. Whatever the changes make of d, the move is
+-- what a move makes, with what it gives
+abbrev pub making_of : List LogItem → List hint.Hint → List Gone → Given → Making
+making_of taken made gone g = record { taken = taken; made = made; gone = gone; sent = g.sends; told = g.entries }
+
+-- One move, from where these hints are kept: what it makes
+pub record Moved (b : Base) (d : Durable) (k : KeptHints) (x : Stage) (a : Act) (g : Given) (x' : Stage) : Type 0 where
+  pub kept : KeptHints
+  pub same : IsSameHints kept x'.hints
+  pub taken : List LogItem
+  pub made : List hint.Hint
+  pub gone : List Gone
+  pub takes : x'.work.taken ≡ x.work.taken ++ taken
+  pub makes : x'.work.made ≡ x.work.made ++ map add_item made
+  pub loses : x'.work.gone ≡ x.work.gone ++ map gone_item gone
+  pub brings : data_by b.setting x.work.time a ≡ taken
+  pub moves : MovesOn b.setting b.me (loaded d) x.work.ceiling x.work.taken k (forgotten_in b x.work) a (making_of taken made gone g) kept (forgotten_in b x'.work)
+
+-- By one move the node goes from what the step made so far to x', and this is given. Whatever the changes make of d, the move is
 -- one from the state that those before it make
-abbrev pub MovesTo : Base → Durable → Work → Act → Given → Work → Type 0
-MovesTo b d w a g w' =
-    (d' : Durable) → Commits w'.items d d'
-    → (mid : Durable) × Commits w.items d mid × Does b.setting b.me (state_at b mid w) a (effects_given g) (state_at b d' w')
+abbrev pub MovesTo : Base → Durable → Stage → Act → Given → Stage → Type 0
+MovesTo b d x a g x' = (k : KeptHints) → IsSameHints k x.hints → Moved b d k x a g x'
 
 -- what a move leaves as it was: what came before it, and what waits
-pub record GoesOn (b : Base) (w : Work) (a : Act) (w' : Work) : Type 0 where
+pub record GoesOn (w w' : Work) : Type 0 where
   pub time : w'.time ≡ w.time
   pub ceiling : w'.ceiling ≡ w.ceiling
   pub request : w'.request ≡ w.request
   pub queue : w'.queue.items ≡ w.queue.items
   pub messages : w'.messages ≡ w.messages
   pub entries : w'.entries ≡ w.entries
-  pub items : w'.items ≡ w.items ++ kept_by b.setting w.time a
 
--- From s, with these matters, a chain of moves has come to what the step made, where the changes taken in made d' of what was kept.
+-- From s, with these matters, a chain of moves has come to what the step made, whatever the changes taken in make of d.
 -- The node has yet to hear `pending`
-pub record HasMade (b : Base) (s : NodeState) (matters left : List Act) (pending : List Outbound) (d' : Durable) (w : Work) : Type 0 where
-  pub deeds : List Deed
-  pub moves : Chain b.setting b.me s matters deeds (state_at b d' w) (own_acts b.me pending) left
-  pub messages : w.messages ≡ messages_of b.me w.time (flat_map sends_of deeds)
-  pub entries : w.entries ≡ flat_map entries_of deeds
-  pub items : w.items ≡ flat_map (kept_in b.setting) deeds
-
-abbrev pub HasCome : Base → Durable → NodeState → List Act → List Act → List Outbound → Work → Type 0
-HasCome b d s matters left pending w = (d' : Durable) → Commits w.items d d' → HasMade b s matters left pending d' w
+pub record HasCome (b : Base) (d : Durable) (s : NodeState) (matters left : List Act) (pending : List Outbound) (x : Stage) : Type 0 where
+  pub kept : KeptHints
+  pub same : IsSameHints kept x.hints
+  pub making : Making
+  pub taken : x.work.taken ≡ making.taken
+  pub made : x.work.made ≡ map add_item making.made
+  pub gone : x.work.gone ≡ map gone_item making.gone
+  pub messages : x.work.messages ≡ messages_of b.me x.work.time making.sent
+  pub entries : x.work.entries ≡ making.told
+  pub leads : Leads b.setting b.me d s matters x.work.ceiling making kept (forgotten_in b x.work) (own_acts b.me pending) left
 
 -- what is held of the query's rows, before changes of a partition are taken in and behind them
 abbrev pub IsBehind : Mutation → Query → List Held → List Held → Type 0
@@ -89,6 +114,8 @@ IsReadFor items d (Read q) part = (p : List Held) × (part ≡ Some p) × Answer
 IsReadFor items d (Write m) part = part ≡ None
 IsReadFor items d WriteAck part = part ≡ None
 IsReadFor items d (ReadReply content) part = part ≡ None
+IsReadFor items d (Hint number m) part = part ≡ None
+IsReadFor items d (HintAck number) part = part ≡ None
 
 -- it is there where it is asked
 abbrev pub HasPart : Body → Option (List Held) → Type 0
@@ -96,37 +123,59 @@ HasPart (Read q) part = (p : List Held) × (part ≡ Some p)
 HasPart (Write m) part = Unit {0}
 HasPart WriteAck part = Unit {0}
 HasPart (ReadReply content) part = Unit {0}
+HasPart (Hint number m) part = Unit {0}
+HasPart (HintAck number) part = Unit {0}
 
 abbrev pub replies : Asker → Body → Effects
 replies a body = replies_to (record { from = a.from; request = a.request }) body
 
--- what a body makes of the step, by what came
-abbrev pub TakesBody : Base → Work → Asker → Body → Option (List Held) → Given → Work → Type 0
-TakesBody b w a (Write m) part g w' = (effects_given g ≡ replies a WriteAck) × (w' ≡ record w { items = w.items ++ Data w.time m ∷ [] })
-TakesBody b w a WriteAck part g w' = AckMoves b.setting a.request a.from b.writes.entries w.write g w'.write × (w' ≡ record w { write = w'.write })
-TakesBody b w a (Read q) part g w' = ((p : List Held) × (part ≡ Some p) × (effects_given g ≡ replies a (ReadReply p))) × (w' ≡ w)
-TakesBody b w a (ReadReply content) part g w' = ReplyMoves b.setting a.request a.from content b.reads.entries w.read g w'.read × (w' ≡ record w { read = w'.read })
+abbrev pub left_writes : Base → Work → List (ReqId × OpenWrite)
+left_writes b w = left_open w.ended_writes b.writes.entries
 
--- what is sent is of this request, and can be kept
-pub record AreOf (id : ReqId) (xs : List Outbound) : Type 0 where
-  pub requests : AllByRecursion (λ (x : Outbound). x.request ≡ id) xs
-  pub fit : AllByRecursion (λ (x : Outbound). BodyFits x.body) xs
+abbrev pub left_reads : Base → Work → List (ReqId × OpenRead)
+left_reads b w = left_open w.ended_reads b.reads.entries
+
+-- changes come in, and are acknowledged
+pub record TakesChanges (a : Asker) (m : Mutation) (reply : Body) (x : Stage) (g : Given) (x' : Stage) : Type 0 where
+  pub gives : effects_given g ≡ replies a reply
+  pub takes : x' ≡ at (record x.work { taken = x.work.taken ++ Data x.work.time m ∷ [] }) x.hints
+
+-- what a body makes of the step, by what came
+abbrev pub TakesBody : Base → Stage → Asker → Body → Option (List Held) → Given → Stage → Type 0
+TakesBody b x a (Write m) part g x' = TakesChanges a m WriteAck x g x'
+TakesBody b x a WriteAck part g x' = AckMoves b.setting a.request a.from (left_writes b x.work) x.work.write g x'.work.write × (x' ≡ at (record x.work { write = x'.work.write }) x.hints)
+TakesBody b x a (Read q) part g x' = ((p : List Held) × (part ≡ Some p) × (effects_given g ≡ replies a (ReadReply p))) × (x' ≡ x)
+TakesBody b x a (ReadReply content) part g x' = ReplyMoves b.setting a.request a.from content (left_reads b x.work) x.work.read g x'.work.read × (x' ≡ at (record x.work { read = x'.work.read }) x.hints)
+TakesBody b x a (Hint number m) part g x' = TakesChanges a m (HintAck number) x g x'
+TakesBody b x a (HintAck number) part g x' = HearsHintAck b a.from number x g x'
+
+-- what goes to the node itself is of this request, and can be kept
+abbrev pub SendsOwn : Base → ReqId → Given → Type 0
+SendsOwn b id g = AllByRecursion (IsOwn b.me id) (own_sent b.me g.sends)
+
+-- a node sends itself no hints
+abbrev pub IsOfOther : ℕ → ℕ → Body → Type 0
+IsOfOther me from body = (IsPlain body → ⊥) → (from ≡ me → ⊥)
+
+abbrev pub heard_from : Asker → ℕ → Body → Heard
+heard_from a born body = record { from = a.from; born = born; request = a.request; body = body }
 
 -- a body was heard, and this is given
-pub record IsHeard (b : Base) (honest : Type 0) (d : Durable) (w : Work) (h : Heard) (g : Given) (w' : Work) : Type 0 where
-  pub moves : honest → MovesTo b d w (heard_act h) g w'
-  pub goes_on : GoesOn b w (heard_act h) w'
-  pub sound : IsSound b w'
-  pub sends : AreOf h.request g.sends
-  pub lighter : weight g.sends < weight_of h.body
+pub record IsHeard (b : Base) (honest : Type 0) (d : Durable) (x : Stage) (h : Heard) (g : Given) (x' : Stage) : Type 0 where
+  pub moves : honest → MovesTo b d x (heard_act h) g x'
+  pub goes_on : GoesOn x.work x'.work
+  pub sound : IsSound b x'.work
+  pub own : SendsOwn b h.request g
+  pub lighter : weight (own_sent b.me g.sends) < weight_of h.body
   pub quiet : filter is_entered_at_stop g.entries ≡ []
 
 -- The node heard a body of its own, which was taken from the queue
-pub record GoesBy (b : Base) (honest : Type 0) (d : Durable) (x : Outbound) (w w' : Work) : Type 0 where
+pub record GoesBy (b : Base) (honest : Type 0) (d : Durable) (own : Outbound) (x x' : Stage) : Type 0 where
   pub given : Given
-  pub mid : Work
-  pub heard : IsHeard b honest d w (record { from = b.me; born = x.born; request = x.request; body = x.body }) given mid
-  pub sent : IsSent b.me given.sends (record mid { entries = mid.entries ++ given.entries }) w'
+  pub mid : Stage
+  pub heard : IsHeard b honest d x (record { from = b.me; born = own.born; request = own.request; body = own.body }) given mid
+  pub sent : IsSent b.me given.sends (record mid.work { entries = mid.work.entries ++ given.entries }) x'.work
+  pub hints : x'.hints ≡ mid.hints
 
 -- ---- a stop inside the step
 
@@ -147,19 +196,18 @@ CutsOn b w w' = (s : NodeState) (matters : List Act) → IsCut b s matters w →
 -- ---- all that comes of it at the node itself
 
 -- The node heard of its own what stood in its queue, up to here
-pub record GoesAlong (b : Base) (honest : Type 0) (d : Durable) (w w' : Work) : Type 0 where
-  pub comes : honest → (s : NodeState) (matters left : List Act) → HasCome b d s matters left w.queue.items w → HasCome b d s matters left w'.queue.items w'
-  pub cut : CutsOn b w w'
-  pub sound : IsSound b w'
-  pub few : length w'.items + weight w'.queue.items ≤ length w.items + weight w.queue.items
-  pub time : w'.time ≡ w.time
-  pub ceiling : w'.ceiling ≡ w.ceiling
-  pub request : w'.request ≡ w.request
+pub record GoesAlong (b : Base) (honest : Type 0) (d : Durable) (x x' : Stage) : Type 0 where
+  pub comes : honest → (s : NodeState) (matters left : List Act) → HasCome b d s matters left x.work.queue.items x → HasCome b d s matters left x'.work.queue.items x'
+  pub cut : CutsOn b x.work x'.work
+  pub sound : IsSound b x'.work
+  pub time : x'.work.time ≡ x.work.time
+  pub ceiling : x'.work.ceiling ≡ x.work.ceiling
+  pub request : x'.work.request ≡ x.work.request
 
 -- and nothing is left to hear
-pub record IsSettled (b : Base) (honest : Type 0) (d : Durable) (w w' : Work) : Type 0 where
-  pub along : GoesAlong b honest d w w'
-  pub done : w'.queue.items ≡ []
+pub record IsSettled (b : Base) (honest : Type 0) (d : Durable) (x x' : Stage) : Type 0 where
+  pub along : GoesAlong b honest d x x'
+  pub done : x'.work.queue.items ≡ []
 
 -- ---- the event's own matter
 
@@ -169,29 +217,56 @@ EntersQuietly (Asks ask) es = Unit {0}
 EntersQuietly (Rises t) es = filter is_entered_at_stop es ≡ []
 EntersQuietly (Hears m) es = filter is_entered_at_stop es ≡ []
 EntersQuietly (Marks peer up) es = filter is_entered_at_stop es ≡ []
+EntersQuietly (DeadlineComes id) es = filter is_entered_at_stop es ≡ []
+EntersQuietly (HintExpires peer number) es = filter is_entered_at_stop es ≡ []
 
--- the matter was taken by a step that had made nothing yet, and this is given
-pub record TakesMatter (b : Base) (honest : Type 0) (d : Durable) (w : Work) (a : Act) (g : Given) (w' : Work) : Type 0 where
-  pub moves : honest → MovesTo b d w a g w'
-  pub goes_on : GoesOn b w a w'
-  pub sound : IsSound b w'
-  pub sends : AreOf w.request g.sends
-  pub few : length w'.items + weight (own_sent b.me g.sends) ≤ 2
+-- the matter was taken by a step that had made nothing yet of it, and this is given
+pub record TakesMatter (b : Base) (honest : Type 0) (d : Durable) (x : Stage) (a : Act) (g : Given) (x' : Stage) : Type 0 where
+  pub moves : honest → MovesTo b d x a g x'
+  pub goes_on : GoesOn x.work x'.work
+  pub sound : IsSound b x'.work
+  pub own : SendsOwn b x.work.request g
   pub quiet : EntersQuietly a g.entries
 
-abbrev pub TakesMatters : Base → Type 0 → Durable → Work → List Act → Given → Work → Type 0
-TakesMatters b honest d w [] g w' = (g.sends ≡ []) × (g.entries ≡ []) × (w' ≡ w)
-TakesMatters b honest d w (a ∷ rest) g w' = (rest ≡ []) × TakesMatter b honest d w a g w'
+abbrev pub TakesMatters : Base → Type 0 → Durable → Stage → List Act → Given → Stage → Type 0
+TakesMatters b honest d x [] g x' = (g.sends ≡ []) × (g.entries ≡ []) × (x' ≡ x)
+TakesMatters b honest d x (a ∷ rest) g x' = (rest ≡ []) × TakesMatter b honest d x a g x'
 
--- a mark that fits is put down, and nothing is given
-pub record MarksAs (b : Base) (peer : ℕ) (up : Bool) (w : Work) (g : Given) (w' : Work) : Type 0 where
-  pub sends : g.sends ≡ []
-  pub entries : g.entries ≡ []
-  pub marks : w' ≡ (if mark_fits b.setting b.me peer then record w { marked = Some (marked b.down peer up) } else w)
+-- a mark that fits is put down. Where it is up the first hints of the node are sent
+abbrev pub MarksAs : Base → ℕ → Bool → KeptHints → Work → Given → Work → Type 0
+MarksAs b peer true k w g w' = SendsFirst b peer k (record w { marked = Some (marked b.down peer true) }) g w'
+MarksAs b peer false k w g w' = (g.sends ≡ []) × (g.entries ≡ []) × (w' ≡ record w { marked = Some (marked b.down peer false) })
+
+abbrev pub MarksIf : Bool → Base → ℕ → Bool → KeptHints → Work → Given → Work → Type 0
+MarksIf true b peer up k w g w' = MarksAs b peer up k w g w'
+MarksIf false b peer up k w g w' = (g.sends ≡ []) × (g.entries ≡ []) × (w' ≡ w)
 
 -- none is a client's request
 abbrev pub AskNothing : List Act → Type 0
 AskNothing matters = (ask : Ask) → Contains matters (Asks ask) → ⊥
+
+-- ---- what is due
+
+-- one matter that is due is taken, before the event's own
+pub record EndsOne (b : Base) (d : Durable) (x : Stage) (a : Act) (x' : Stage) : Type 0 where
+  pub given : Given
+  pub mid : Stage
+  pub moves : MovesTo b d x a given mid
+  pub goes_on : GoesOn x.work mid.work
+  pub none : given.sends ≡ []
+  pub sent : IsSent b.me given.sends (record mid.work { entries = mid.work.entries ++ given.entries }) x'.work
+  pub hints : x'.hints ≡ mid.hints
+
+-- all that was due was taken
+pub record TakesDue (b : Base) (x x' : Stage) : Type 0 where
+  pub keys : List DueKey
+  pub due : AreDueKeys b x.hints x.work.time keys
+  pub comes : (d : Durable) (s : NodeState) (matters left : List Act) → HasCome b d s matters (map act_by keys ++ left) [] x → HasCome b d s matters left [] x'
+  pub unmoved : IsUnmoved x'.work
+  pub sound : IsSound b x'.work
+  pub time : x'.work.time ≡ x.work.time
+  pub ceiling : x'.work.ceiling ≡ x.work.ceiling
+  pub request : x'.work.request ≡ x.work.request
 
 -- ---- a step's part in memory, as a whole
 
@@ -200,6 +275,7 @@ abbrev pub IsAbout : ℕ → ℕ → What → ReqId → Type 0
 IsAbout me time (Deliver m) id = id ≡ m.request
 IsAbout me time (Client ask) id = id ≡ request_at me time
 IsAbout me time (Alive peer up) id = id ≡ request_at me time
+IsAbout me time (Collect request) id = id ≡ request_at me time
 IsAbout me time Flush id = id ≡ request_at me time
 IsAbout me time Tick id = id ≡ request_at me time
 
@@ -211,19 +287,27 @@ pub record IsNewTo (b : Base) (time : ℕ) : Type 0 where
   pub writes : BeganBefore time b.writes.entries
   pub reads : BeganBefore time b.reads.entries
 
--- a chain that has come to w, with these matters left, is at a stop inside the step at w'
-abbrev pub CutsIn : Base → Durable → List Act → Work → Work → Type 0
-CutsIn b d left w w' = (s : NodeState) (matters : List Act) → HasCome b d s matters left [] w → IsCut b s matters w'
+-- what a node holds between its steps: its open requests by id, all its own, with what can be kept of them, and how many wait
+pub record IsHolding (b : Base) : Type 0 where
+  pub writes : IsOrdered request_cmp b.writes
+  pub reads : IsOrdered request_cmp b.reads
+  pub own_writes : AreOwn b.me b.writes.entries
+  pub own_reads : AreOwn b.me b.reads.entries
+  pub fit : FitWrites b.writes.entries
+  pub unanswered : b.unanswered ≡ unanswered_writes b.writes.entries
 
--- a step that had made nothing yet took these matters, with all that comes of them
-pub record IsWorkedOut (b : Base) (honest : Type 0) (d : Durable) (left : List Act) (w w' : Work) : Type 0 where
-  pub comes : honest → (s : NodeState) (matters : List Act) → HasCome b d s matters left [] w → HasCome b d s matters [] [] w'
-  pub cut : honest → CutsIn b d left w w'
-  pub sound : IsSound b w'
-  pub few : length w'.items ≤ 2
-  pub time : w'.time ≡ w.time
-  pub ceiling : w'.ceiling ≡ w.ceiling
-  pub request : w'.request ≡ w.request
+-- a chain that has come to x, with these matters left, is at a stop inside the step at w'
+abbrev pub CutsIn : Base → Durable → List Act → Stage → Work → Type 0
+CutsIn b d left x w' = (s : NodeState) (matters : List Act) → HasCome b d s matters left [] x → IsCut b s matters w'
+
+-- a step took these matters, with all that comes of them
+pub record IsWorkedOut (b : Base) (honest : Type 0) (d : Durable) (left : List Act) (x x' : Stage) : Type 0 where
+  pub comes : honest → (s : NodeState) (matters : List Act) → HasCome b d s matters left [] x → HasCome b d s matters [] [] x'
+  pub cut : honest → CutsIn b d left x x'.work
+  pub sound : IsSound b x'.work
+  pub time : x'.work.time ≡ x.work.time
+  pub ceiling : x'.work.ceiling ≡ x.work.ceiling
+  pub request : x'.work.request ≡ x.work.request
 
 -- ---- a replica that is looked at, and keeps what it kept
 

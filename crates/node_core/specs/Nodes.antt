@@ -11,7 +11,7 @@ use Rattle.peer_messages.specs.declared.chronicle.Entry.{Entry}
 use Rattle.peer_messages.specs.declared.setting.Setting.{Setting}
 use Rattle.durable_state.specs.State.{Durable}
 use Rattle.durable_state.specs.Keeping.{Commits}
-use Rattle.node_steps.specs.State.{NodeState, OpenWrite, OpenRead, durable_of}
+use Rattle.node_steps.specs.State.{NodeState, Batch, OpenWrite, OpenRead, durable_of}
 use Rattle.node_steps.specs.Acts.{Deed}
 use Rattle.node_steps.specs.Steps.{NodeStep, risen_time, end_of_time}
 use Rattle.node_steps.specs.Keeping.{entry_of}
@@ -29,6 +29,7 @@ pub record Core : Type 0 where
   pub risen : ℕ
   pub kept : Kept
   pub down : List ℕ
+  pub batches : List Batch
   pub writes : List (ReqId × OpenWrite)
   pub reads : List (ReqId × OpenRead)
 
@@ -44,6 +45,7 @@ state_with n d = record {
   time = n.time;
   risen = n.risen;
   down = n.down;
+  batches = n.batches;
   writes = n.writes;
   reads = n.reads;
 }
@@ -52,7 +54,7 @@ state_with n d = record {
 pub record Steps (n : Core) (d : Durable) (e : Event) (o : Outputs) (n' : Core) (d' : Durable) : Type 0 where
   pub deeds : List Deed
   pub step : NodeStep n.setting n.me (state_with n d) e deeds o (state_with n' d')
-  pub stays : n' ≡ record n { time = n'.time; risen = n'.risen; kept = n'.kept; down = n'.down; writes = n'.writes; reads = n'.reads }
+  pub stays : n' ≡ record n { time = n'.time; risen = n'.risen; kept = n'.kept; down = n'.down; batches = n'.batches; writes = n'.writes; reads = n'.reads }
 
 -- To whatever the entry makes of what is kept, the node comes by a step that keeps this entry and gives these outputs
 abbrev pub LeadsBy : Core → Durable → Event → Outputs → List LogItem → Type 0

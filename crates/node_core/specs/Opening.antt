@@ -1,17 +1,21 @@
 -- The open requests of a node, as a step changes them: what it began is put in before it is kept, and the rest behind it.
-use Rattle.std.specs.Prelude.{◌≡◌, ◌≤◌, if◌then◌else◌, ℕ, Bool, true, false, Option, List}
+use Rattle.std.specs.Prelude.{◌≡◌, ◌≤◌, if◌then◌else◌, ℕ, Bool, true, false, Option, None, List}
 use Rattle.std.specs.List.{AllByRecursion}
 use Rattle.std.specs.Map.{remove_entry}
 use Rattle.std.specs.BTreeMap.{insert_entry, is_at, IsOrdered}
 use Rattle.cs_base.specs.declared.ids.ReqId.{ReqId}
 use Rattle.cs_base.specs.Requests.{request_cmp}
 use Rattle.peer_messages.specs.declared.setting.Setting.{Setting}
-use Rattle.node_steps.specs.State.{OpenWrite, OpenRead}
+use Rattle.node_steps.specs.State.{Batch, OpenWrite, OpenRead}
+use Rattle.node_steps.specs.Effects.{open_at}
+use Rattle.node_steps.specs.Requests.{unanswered_writes}
 use Rattle.node_core.specs.declared.base.Base.{Base}
 use Rattle.node_core.specs.declared.opening.Began.{Began}
 use Rattle.node_core.specs.declared.slot.Slot.{Slot}
 use Rattle.node_core.specs.declared.slot.Slot.TheVariants.{Untouched, New, Old, Gone}
-use Rattle.node_core.specs.Working.{with_slot, down_with}
+use Rattle.node_core.specs.declared.work.Work.{Work}
+use Rattle.node_core.specs.Slots.{IsNew}
+use Rattle.node_core.specs.Working.{with_slot, left_open, down_with, batches_with}
 
 -- ---- of one kind
 
@@ -33,6 +37,10 @@ with_rest {A} id (New a) xs = xs
 with_rest {A} id (Old a) xs = with_slot id (Old a) xs
 with_rest {A} id Gone xs = with_slot id Gone xs
 
+-- what began was not open
+abbrev pub MayPut : {A : Type 0} → ReqId → List (ReqId × A) → Slot A → Type 0
+MayPut {A} id xs slot = IsNew slot → open_at xs id ≡ None
+
 -- whether it began one, and what is left in its slot when that is put in
 abbrev pub LeavesRest : {A : Type 0} → Slot A → Bool → Slot A → Type 0
 LeavesRest {A} Untouched began rest = (began ≡ false) × (rest ≡ Untouched)
@@ -47,15 +55,18 @@ pub record Known : Type 0 where
   pub setting : Setting
   pub me : ℕ
   pub down : List ℕ
+  pub batches : List Batch
   pub writes : List (ReqId × OpenWrite)
   pub reads : List (ReqId × OpenRead)
 
 abbrev pub known_of : Base → Known
-known_of b = record { setting = b.setting; me = b.me; down = b.down; writes = b.writes.entries; reads = b.reads.entries }
+known_of b = record { setting = b.setting; me = b.me; down = b.down; batches = b.batches; writes = b.writes.entries; reads = b.reads.entries }
 
+-- open requests stand by id, and the node knows how many writes wait for an answer
 pub record AreOrdered (b : Base) : Type 0 where
   pub writes : IsOrdered request_cmp b.writes
   pub reads : IsOrdered request_cmp b.reads
+  pub unanswered : b.unanswered ≡ unanswered_writes b.writes.entries
 
 -- what the step began is put in, and the rest is left
 pub record IsBegunAs (id : ReqId) (w : Slot OpenWrite) (r : Slot OpenRead) (b : Base) (began : Began) (w' : Slot OpenWrite) (r' : Slot OpenRead) (b' : Base) : Type 0 where
@@ -63,10 +74,26 @@ pub record IsBegunAs (id : ReqId) (w : Slot OpenWrite) (r : Slot OpenRead) (b : 
   pub write : LeavesRest w began.write w'
   pub read : LeavesRest r began.read r'
 
--- the rest is put in, and the nodes that are taken for dead
-abbrev pub known_with : ReqId → Slot OpenWrite → Slot OpenRead → Option (List ℕ) → Base → Known
-known_with id w r marked b =
-    record (known_of b) { down = down_with marked b.down; writes = with_rest id w b.writes.entries; reads = with_rest id r b.reads.entries }
+-- what the step ended is taken out, and the rest is put in, with the nodes that are taken for dead and the batches
+pub record Rest : Type 0 where
+  pub request : ReqId
+  pub ended_writes : List ReqId
+  pub ended_reads : List ReqId
+  pub write : Slot OpenWrite
+  pub read : Slot OpenRead
+  pub marked : Option (List ℕ)
+  pub batches : Option (List Batch)
+
+abbrev pub rest_of : Work → Rest
+rest_of w = record { request = w.request; ended_writes = w.ended_writes; ended_reads = w.ended_reads; write = w.write; read = w.read; marked = w.marked; batches = w.batches }
+
+abbrev pub known_with : Rest → Base → Known
+known_with r b = record (known_of b) {
+  down = down_with r.marked b.down;
+  batches = batches_with r.batches b.batches;
+  writes = with_rest r.request r.write (left_open r.ended_writes b.writes.entries);
+  reads = with_rest r.request r.read (left_open r.ended_reads b.reads.entries);
+}
 
 -- what the step began is taken out again
 abbrev pub known_without : ReqId → Began → Base → Known

@@ -12,56 +12,32 @@ ghost use Rattle.durable_state.specs.Partitions.{is_partition};
 ghost use Rattle.durable_state.specs.State.{changes_of};
 ghost use Rattle.node_steps.specs.Replicas.{IsAnswerTo};
 ghost use Rattle.row_change.specs.declared.entry.LogItem.TheVariants.{Data};
-ghost use Rattle.peer_messages.specs.declared.message.Body.TheVariants.{WriteAck};
 ghost use Rattle.node_steps.specs.Effects.{outbound};
 ghost use Rattle.node_core.specs.Working.{effects_given, IsSlotOf, IsDataAt, IsSound, BodyFits, IsOwn};
 ghost use Rattle.node_core.specs.Hearing.{AckMoves, ReplyMoves};
-ghost use Rattle.node_core.specs.Moving.{replies, AnswersBehind, IsBehind, IsBehindItem, AreBehind, IsReadFor, HasPart, TakesBody, IsHeard, GoesBy, Peeks};
+ghost use Rattle.node_core.specs.Hinting.{at};
+ghost use Rattle.node_core.specs.Moving.{replies, AnswersBehind, IsBehind, IsBehindItem, AreBehind, IsReadFor, HasPart, TakesBody, left_writes, left_reads, heard_from, IsHolding, IsOfOther, IsHeard, GoesBy, Peeks};
 ghost use Rattle.replica.specs.declared.error.CallError.TheVariants as call_error;
 
 use crate::base::Base;
 use crate::hears::{hear_ack, hear_reply};
 use crate::times::is_old;
-use crate::work::{Given, Heard, Work};
+use crate::work::{Given, Work};
 use cell_merge::Content;
 use changes::{Held, Helds, Mutation, Partition, Query};
-use cs_base::{Items, NodeId, ReqId};
-use peer_messages::{Body, Message, Outbound};
+use cs_base::{Bytes, Items, Micros, NodeId, ReqId};
+use hint_store::HintStore;
+use peer_messages::{Body, Outbound};
 use replica::{CallError, Replica};
 use row_change::LogItem;
 use std::alloc::{AllocError, Global};
+use std::mem;
 
 /// Who sent a body, and of which request it is.
 #[derive(Clone, Copy)]
 pub(crate) struct Asker {
     pub from: NodeId,
     pub request: ReqId,
-}
-
-impl Heard {
-    /// A body that the node sent to itself.
-    pub(crate) fn own(me: NodeId, sent: Outbound) -> Heard
-        ensures { result ≡ record { from = me; born = sent.born; request = sent.request; body = sent.body } }
-    {
-        Heard {
-            from: me,
-            born: sent.born,
-            request: sent.request,
-            body: sent.body,
-        }
-    }
-
-    /// A body that another node sent.
-    pub(crate) fn of(message: Message) -> Heard
-        ensures { result ≡ record { from = message.from; born = message.born; request = message.request; body = message.body } }
-    {
-        Heard {
-            from: message.from,
-            born: message.born,
-            request: message.request,
-            body: message.body,
-        }
-    }
 }
 
 /// What a replica holds of a query's rows.
@@ -199,7 +175,8 @@ fn read_for<R: Replica>(
 {
     match body {
         Body::Read(query) => Ok(Some(answer(replica, alloc, items, query)?)),
-        Body::Write(_) | Body::WriteAck | Body::ReadReply(_) => Ok(None),
+        Body::Write(_) | Body::WriteAck | Body::ReadReply(_) | Body::Hint(..) | Body::HintAck(_) =>
+            Ok(None),
     }
 }
 
@@ -220,36 +197,55 @@ fn sent_back(asker: Asker, body: Body) -> Outbound
 fn reply(alloc: Global, asker: Asker, body: Body) -> Result<Given, AllocError>
     ensures { IfOk result (λ given. effects_given given ≡ replies asker body) }
 {
-    let mut sends = Items::new(alloc);
+    let mut sends = Vec::with_capacity(alloc, 1)?;
     sends.push(sent_back(asker, body))?;
     Ok(Given {
-        sends,
+        sends: Items::from_vec(sends),
         entries: Items::new(alloc),
     })
 }
 
+/// The changes, which are moved.
+fn moved(alloc: Global, mutation: &mut Mutation) -> Mutation
+    ensures { result ≡ mutation.old }
+{
+    let nothing = Mutation {
+        partition: Partition {
+            token: 0,
+            table: 0,
+            key: Bytes::new(alloc),
+        },
+        changes: Items::new(alloc),
+    };
+    mem::replace(mutation, nothing)
+}
+
 impl Work {
-    /// Takes changes in: they are kept with the step, and acknowledged.
-    fn hear_write(
+    /// Takes changes in: they are kept with the step, and acknowledged by this.
+    fn take_changes(
         &mut self,
         alloc: Global,
         asker: Asker,
-        mutation: Mutation,
+        mutation: &mut Mutation,
+        ack: Body,
     ) -> Result<Given, AllocError>
-        ensures { IfOk result (λ given. (effects_given given ≡ replies asker WriteAck) × (self.new ≡ record self.old { items = self.old.items ++ Data self.old.time mutation ∷ [] })) }
+        ensures { IfOk result (λ given. (effects_given given ≡ replies asker ack) × (self.new ≡ record self.old { taken = self.old.taken ++ Data self.old.time mutation.old ∷ [] })) }
     {
-        self.items.push(LogItem::Data(self.time, mutation))?;
-        reply(alloc, asker, Body::WriteAck)
+        let mutation = moved(alloc, mutation);
+        self.taken.push(LogItem::Data(self.time, mutation))?;
+        reply(alloc, asker, ack)
     }
 
     fn hear_ack(&mut self, base: &Base, alloc: Global, asker: Asker) -> Result<Given, AllocError>
         requires ordered { IsOrdered request_cmp base.now.writes }
-        requires slot { IsSlotOf asker.request base.now.writes.entries self.old.write }
-        ensures { IfOk result (λ given. AckMoves base.now.setting asker.request asker.from base.now.writes.entries self.old.write given self.new.write × (self.new ≡ record self.old { write = self.new.write })) }
+        requires slot { IsSlotOf asker.request (left_writes base.now self.old) self.old.write }
+        ensures { IfOk result (λ given. AckMoves base.now.setting asker.request asker.from (left_writes base.now self.old) self.old.write given self.new.write × (self.new ≡ record self.old { write = self.new.write })) }
     {
+        let ended = self.ended_writes.as_slice();
         let slot = &mut self.write;
         hear_ack(
             &base.writes,
+            ended,
             slot,
             alloc,
             &base.setting,
@@ -263,15 +259,18 @@ impl Work {
         base: &Base,
         alloc: Global,
         asker: Asker,
-        content: Content,
+        content: &mut Content,
     ) -> Result<Given, AllocError>
         requires ordered { IsOrdered request_cmp base.now.reads }
-        requires slot { IsSlotOf asker.request base.now.reads.entries self.old.read }
-        ensures { IfOk result (λ given. ReplyMoves base.now.setting asker.request asker.from content base.now.reads.entries self.old.read given self.new.read × (self.new ≡ record self.old { read = self.new.read })) }
+        requires slot { IsSlotOf asker.request (left_reads base.now self.old) self.old.read }
+        ensures { IfOk result (λ given. ReplyMoves base.now.setting asker.request asker.from content.old (left_reads base.now self.old) self.old.read given self.new.read × (self.new ≡ record self.old { read = self.new.read })) }
     {
+        let content = mem::replace(content, Content::new(alloc));
+        let ended = self.ended_reads.as_slice();
         let slot = &mut self.read;
         hear_reply(
             &base.reads,
+            ended,
             slot,
             alloc,
             &base.setting,
@@ -281,86 +280,108 @@ impl Work {
         )
     }
 
-    /// Takes a body, by what came; `part` is what is held of what it asks.
+    /// Takes a body, by what came, and moves what it has; `part` is what is held of what it asks.
     fn hear_body(
         &mut self,
         base: &Base,
+        hints: &mut HintStore,
         alloc: Global,
         asker: Asker,
-        body: Body,
+        body: &mut Body,
         part: Option<Content>,
     ) -> Result<Given, AllocError>
         requires writes { IsOrdered request_cmp base.now.writes }
         requires reads { IsOrdered request_cmp base.now.reads }
-        requires write { IsSlotOf asker.request base.now.writes.entries self.old.write }
-        requires read { IsSlotOf asker.request base.now.reads.entries self.old.read }
-        requires part { HasPart body part }
-        ensures { IfOk result (λ given. TakesBody base.now self.old asker body part given self.new) }
+        requires write { IsSlotOf asker.request (left_writes base.now self.old) self.old.write }
+        requires read { IsSlotOf asker.request (left_reads base.now self.old) self.old.read }
+        requires part { HasPart body.old part }
+        ensures ok { IfOk result (λ given. TakesBody base.now (at self.old hints.old.now) asker body.old part given (at self.new hints.new.now)) }
+        ensures before { hints.new.before ≡ hints.old.before }
     {
         match body {
-            Body::Write(mutation) => self.hear_write(alloc, asker, mutation),
+            Body::Write(mutation) => self.take_changes(alloc, asker, mutation, Body::WriteAck),
             Body::WriteAck => self.hear_ack(base, alloc, asker),
             Body::Read(_) => match part {
                 Some(part) => reply(alloc, asker, Body::ReadReply(part)),
                 None => unreachable!(),
             },
             Body::ReadReply(content) => self.hear_reply(base, alloc, asker, content),
+            Body::Hint(number, mutation) => {
+                let ack = Body::HintAck(*number);
+                self.take_changes(alloc, asker, mutation, ack)
+            }
+            Body::HintAck(number) => self.hear_hint_ack(base, hints, alloc, asker.from, *number),
         }
     }
 }
 
-/// Hears a body, unless it is too old.
+/// Hears a body of a request that began at this time, and moves what it has, unless it is too old.
 pub(crate) fn hear<R: Replica>(
     base: &Base,
+    hints: &mut HintStore,
     replica: &mut R,
     alloc: Global,
     work: &mut Work,
-    heard: Heard,
+    asker: Asker,
+    born: Micros,
+    body: &mut Body,
 ) -> Result<Given, CallError>
     requires whole { R.is_whole replica.old }
-    requires writes { IsOrdered request_cmp base.now.writes }
-    requires reads { IsOrdered request_cmp base.now.reads }
+    requires holding { IsHolding base.now }
     requires sound { IsSound base.now work.old }
-    requires request { heard.request ≡ work.old.request }
-    requires fits { BodyFits heard.body }
-    ensures ok { IfOk result (λ given. IsHeard base.now R.Disk.is_honest (R.durable replica.old) work.old heard given work.new) }
+    requires request { asker.request ≡ work.old.request }
+    requires fits { BodyFits body.old }
+    requires other { IsOfOther base.now.me asker.from body.old }
+    ensures ok { IfOk result (λ given. IsHeard base.now R.Disk.is_honest (R.durable replica.old) (at work.old hints.old.now) (heard_from asker born body.old) given (at work.new hints.new.now)) }
+    ensures before { hints.new.before ≡ hints.old.before }
     ensures same { IsErrOf result call_error.Failed → work.new ≡ work.old }
     ensures peeks { Peeks R.stands_for (λ r. R.Disk.disk (R.disk r)) R.durable R.log_end (λ r. R.Disk.faults (R.disk r)) (λ r n. R.Disk.spares (R.disk r) n) R.Disk.is_honest replica.old replica.new }
     ensures whole { (IsErrOf result call_error.Failed → ⊥) → R.is_whole replica.new }
     ensures failed { IsErrOf result call_error.Failed → HasRisen (R.Disk.faults (R.disk replica.old)) (R.Disk.faults (R.disk replica.new)) }
     ensures surely { IsErrOf result call_error.Failed → ((n : ℕ) → R.Disk.spares (R.disk replica.old) n) → ⊥ }
 {
-    if is_old(&base.setting, work.time, heard.born) {
+    if is_old(&base.setting, work.time, born) {
         return Ok(Given::nothing(alloc));
     }
-    let part = read_for(replica, alloc, work.items.as_slice(), &heard.body)?;
-    let asker = Asker {
-        from: heard.from,
-        request: heard.request,
-    };
-    Ok(work.hear_body(base, alloc, asker, heard.body, part)?)
+    let part = read_for(replica, alloc, work.taken.as_slice(), body)?;
+    Ok(work.hear_body(base, hints, alloc, asker, body, part)?)
 }
 
-/// Hears a body that the node sent to itself, which was taken from the queue.
+/// Hears a body that the node sent to itself, which was taken from the queue, and moves what it has.
 pub(crate) fn hear_own<R: Replica>(
     base: &Base,
+    hints: &mut HintStore,
     replica: &mut R,
     alloc: Global,
     work: &mut Work,
-    sent: Outbound,
+    sent: &mut Outbound,
 ) -> Result<(), CallError>
     requires whole { R.is_whole replica.old }
-    requires writes { IsOrdered request_cmp base.now.writes }
-    requires reads { IsOrdered request_cmp base.now.reads }
+    requires holding { IsHolding base.now }
     requires sound { IsSound base.now work.old }
-    requires own { IsOwn base.now.me work.old.request sent }
-    ensures ok { OnOk result (GoesBy base.now R.Disk.is_honest (R.durable replica.old) sent work.old work.new) }
+    requires own { IsOwn base.now.me work.old.request sent.old }
+    ensures ok { OnOk result (GoesBy base.now R.Disk.is_honest (R.durable replica.old) sent.old (at work.old hints.old.now) (at work.new hints.new.now)) }
+    ensures before { hints.new.before ≡ hints.old.before }
     ensures same { IsErrOf result call_error.Failed → work.new ≡ work.old }
     ensures peeks { Peeks R.stands_for (λ r. R.Disk.disk (R.disk r)) R.durable R.log_end (λ r. R.Disk.faults (R.disk r)) (λ r n. R.Disk.spares (R.disk r) n) R.Disk.is_honest replica.old replica.new }
     ensures whole { (IsErrOf result call_error.Failed → ⊥) → R.is_whole replica.new }
     ensures failed { IsErrOf result call_error.Failed → HasRisen (R.Disk.faults (R.disk replica.old)) (R.Disk.faults (R.disk replica.new)) }
     ensures surely { IsErrOf result call_error.Failed → ((n : ℕ) → R.Disk.spares (R.disk replica.old) n) → ⊥ }
 {
-    let given = hear(base, replica, alloc, work, Heard::own(base.me, sent))?;
+    let asker = Asker {
+        from: base.me,
+        request: sent.request,
+    };
+    let born = sent.born;
+    let given = hear(
+        base,
+        hints,
+        replica,
+        alloc,
+        work,
+        asker,
+        born,
+        &mut sent.body,
+    )?;
     Ok(work.give(base.me, given)?)
 }

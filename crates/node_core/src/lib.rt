@@ -4,9 +4,13 @@
 
 mod asks;
 mod base;
+mod batches;
+mod deadlines;
+mod due;
 mod fits;
 mod hearing;
 mod hears;
+mod hints;
 mod keep;
 mod matter;
 mod memory;

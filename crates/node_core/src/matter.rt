@@ -1,25 +1,28 @@
 //! What a step makes of its event, in memory: the event's own matter, and all that comes of it at the node itself.
 
 ghost use Rattle.std.specs.Prelude.{◌≡◌, ◌<◌, ◌≤◌, ◌^◌, ℕ, [], IfOk, OnOk, IsErrOf};
-ghost use Rattle.std.specs.BTreeMap.{IsOrdered};
 ghost use Rattle.cs_base.specs.Faults.{HasRisen};
-ghost use Rattle.cs_base.specs.Requests.{request_cmp};
+ghost use Rattle.node_steps.specs.Fitting.{mark_fits as mark_fits_of};
 ghost use Rattle.node_steps.specs.Steps.{heard_matter, matter_of};
 ghost use Rattle.node_core.specs.Working.{IsSound};
-ghost use Rattle.node_core.specs.Asking.{IsFresh};
-ghost use Rattle.node_core.specs.Moving.{TakesMatters, MarksAs, AskNothing, IsSettled, CutsOn, IsWorkedOut, CutsIn, IsAbout, IsNewTo, Peeks};
+ghost use Rattle.node_core.specs.Asking.{IsFresh, IsUnmoved};
+ghost use Rattle.node_core.specs.Hinting.{at};
+ghost use Rattle.node_core.specs.Moving.{IsHolding, TakesMatters, MarksAs, MarksIf, AskNothing, IsSettled, CutsOn, IsWorkedOut, CutsIn, IsAbout, IsNewTo, Peeks};
 ghost use Rattle.replica.specs.declared.error.CallError.TheVariants as call_error;
 
 use crate::base::Base;
 use crate::fits::{mark_fits, message_fits};
-use crate::hearing::{hear, hear_own};
+use crate::hearing::{Asker, hear, hear_own};
 use crate::slot::Slot;
-use crate::work::{Given, Heard, Work};
-use cs_base::{Items, Micros, NodeId, ReqId};
-use peer_messages::{Message, What, marked};
+use crate::work::{Given, Work};
+use cs_base::{Items, Level, Micros, NodeId, ReqId};
+use hint_store::HintStore;
+use peer_messages::{Ask, Message, Plan, What, marked};
 use replica::{CallError, Replica};
+use statement_plan::Fault;
 use std::alloc::{AllocError, Global};
 use std::collections::VecDeque;
+use std::mem;
 
 /// The request that a step is about.
 pub(crate) fn request_of(me: NodeId, time: Micros, what: &What) -> ReqId
@@ -27,14 +30,23 @@ pub(crate) fn request_of(me: NodeId, time: Micros, what: &What) -> ReqId
 {
     match what {
         What::Deliver(message) => message.request,
-        What::Client(_) | What::Alive(..) | What::Flush | What::Tick => ReqId { node: me, time },
+        What::Client(_) | What::Alive(..) | What::Collect(_) | What::Flush | What::Tick => ReqId {
+            node: me,
+            time,
+        },
     }
 }
 
 impl Work {
     /// A step that has made nothing yet.
-    pub(crate) fn new(alloc: Global, time: Micros, ceiling: Micros, request: ReqId) -> Work
-        ensures fresh { IsFresh result }
+    pub(crate) fn new(
+        base: &Base,
+        alloc: Global,
+        time: Micros,
+        ceiling: Micros,
+        request: ReqId,
+    ) -> Work
+        ensures fresh { IsFresh base.now result }
         ensures times { (result.time ≡ time) × (result.ceiling ≡ ceiling) × (result.request ≡ request) }
     {
         Work {
@@ -42,136 +54,193 @@ impl Work {
             ceiling,
             request,
             marked: None,
+            batches: None,
+            ended_writes: Items::new(alloc),
+            ended_reads: Items::new(alloc),
+            unanswered: base.unanswered,
+            open_reads: base.reads.len(),
             write: Slot::Untouched,
             read: Slot::Untouched,
-            items: Items::new(alloc),
+            taken: Items::new(alloc),
+            made: Items::new(alloc),
+            gone: Items::new(alloc),
             messages: Items::new(alloc),
             entries: Items::new(alloc),
             queue: VecDeque::new(alloc),
         }
     }
 
-    /// Marks a node, which changes nothing else.
+    /// Marks a node, which is of the ring. Where it is marked alive its first hints are sent.
     fn mark(
         &mut self,
         base: &Base,
+        hints: &HintStore,
         alloc: Global,
         peer: NodeId,
         up: bool,
     ) -> Result<Given, AllocError>
-        ensures { IfOk result (λ given. MarksAs base.now peer up self.old given self.new) }
+        ensures { IfOk result (λ given. MarksAs base.now peer up hints.now.now self.old given self.new) }
+    {
+        self.marked = Some(marked(alloc, base.down.as_slice(), peer, up)?);
+        if up {
+            return self.send_first(base, hints, alloc, peer);
+        }
+        Ok(Given::nothing(alloc))
+    }
+
+    /// Marks a node, unless it is none of the ring, or the node itself.
+    fn mark_other(
+        &mut self,
+        base: &Base,
+        hints: &HintStore,
+        alloc: Global,
+        peer: NodeId,
+        up: bool,
+    ) -> Result<Given, AllocError>
+        ensures { IfOk result (λ given. MarksIf (mark_fits_of base.now.setting base.now.me peer) base.now peer up hints.now.now self.old given self.new) }
     {
         if mark_fits(&base.setting, base.me, peer) {
-            self.marked = Some(marked(alloc, base.down.as_slice(), peer, up)?);
+            return self.mark(base, hints, alloc, peer, up);
         }
         Ok(Given::nothing(alloc))
     }
 }
 
-/// Takes a message of another node, unless it does not fit.
+/// Takes a message of another node, unless it does not fit, and moves what it has.
 fn take_message<R: Replica>(
     base: &Base,
+    hints: &mut HintStore,
     replica: &mut R,
     alloc: Global,
     work: &mut Work,
-    message: Message,
+    message: &mut Message,
 ) -> Result<Given, CallError>
     requires whole { R.is_whole replica.old }
-    requires writes { IsOrdered request_cmp base.now.writes }
-    requires reads { IsOrdered request_cmp base.now.reads }
-    requires fresh { IsFresh work.old }
-    requires request { message.request ≡ work.old.request }
-    ensures ok { IfOk result (λ given. TakesMatters base.now R.Disk.is_honest (R.durable replica.old) work.old (heard_matter base.now.setting base.now.me message) given work.new) }
+    requires holding { IsHolding base.now }
+    requires unmoved { IsUnmoved work.old }
+    requires sound { IsSound base.now work.old }
+    requires request { message.old.request ≡ work.old.request }
+    ensures ok { IfOk result (λ given. TakesMatters base.now R.Disk.is_honest (R.durable replica.old) (at work.old hints.old.now) (heard_matter base.now.setting base.now.me message.old) given (at work.new hints.new.now)) }
+    ensures before { hints.new.before ≡ hints.old.before }
     ensures same { IsErrOf result call_error.Failed → work.new ≡ work.old }
     ensures peeks { Peeks R.stands_for (λ r. R.Disk.disk (R.disk r)) R.durable R.log_end (λ r. R.Disk.faults (R.disk r)) (λ r n. R.Disk.spares (R.disk r) n) R.Disk.is_honest replica.old replica.new }
     ensures whole { (IsErrOf result call_error.Failed → ⊥) → R.is_whole replica.new }
     ensures failed { IsErrOf result call_error.Failed → HasRisen (R.Disk.faults (R.disk replica.old)) (R.Disk.faults (R.disk replica.new)) }
     ensures surely { IsErrOf result call_error.Failed → ((n : ℕ) → R.Disk.spares (R.disk replica.old) n) → ⊥ }
 {
-    if !message_fits(&base.setting, base.me, &message) {
+    if !message_fits(&base.setting, base.me, message) {
         return Ok(Given::nothing(alloc));
     }
-    hear(base, replica, alloc, work, Heard::of(message))
+    let asker = Asker {
+        from: message.from,
+        request: message.request,
+    };
+    hear(
+        base,
+        hints,
+        replica,
+        alloc,
+        work,
+        asker,
+        message.born,
+        &mut message.body,
+    )
 }
 
-/// Takes the event's own matter, if it has one.
+/// The client's request, which is moved.
+fn moved(ask: &mut Ask) -> Ask
+    ensures { result ≡ ask.old }
+{
+    let nothing = Ask {
+        plan: Plan::Invalid(Fault::UnknownTable),
+        level: Level::One,
+    };
+    mem::replace(ask, nothing)
+}
+
+/// Takes the event's own matter, if it has one, and moves what it has.
 fn take<R: Replica>(
     base: &Base,
+    hints: &mut HintStore,
     replica: &mut R,
     alloc: Global,
     work: &mut Work,
-    what: What,
+    what: &mut What,
 ) -> Result<Given, CallError>
     requires whole { R.is_whole replica.old }
-    requires writes { IsOrdered request_cmp base.now.writes }
-    requires reads { IsOrdered request_cmp base.now.reads }
-    requires fresh { IsFresh work.old }
-    requires about { IsAbout base.now.me work.old.time what work.old.request }
+    requires holding { IsHolding base.now }
+    requires unmoved { IsUnmoved work.old }
+    requires sound { IsSound base.now work.old }
+    requires about { IsAbout base.now.me work.old.time what.old work.old.request }
     requires new { IsNewTo base.now work.old.time }
     requires time { work.old.time < 2 ^ 63 }
-    ensures ok { IfOk result (λ given. TakesMatters base.now R.Disk.is_honest (R.durable replica.old) work.old (matter_of base.now.setting base.now.me what) given work.new) }
+    ensures ok { IfOk result (λ given. TakesMatters base.now R.Disk.is_honest (R.durable replica.old) (at work.old hints.old.now) (matter_of base.now.setting base.now.me what.old) given (at work.new hints.new.now)) }
+    ensures before { hints.new.before ≡ hints.old.before }
     ensures same { IsErrOf result call_error.Failed → work.new ≡ work.old }
-    ensures asks { IsErrOf result call_error.Failed → AskNothing (matter_of base.now.setting base.now.me what) }
+    ensures asks { IsErrOf result call_error.Failed → AskNothing (matter_of base.now.setting base.now.me what.old) }
     ensures peeks { Peeks R.stands_for (λ r. R.Disk.disk (R.disk r)) R.durable R.log_end (λ r. R.Disk.faults (R.disk r)) (λ r n. R.Disk.spares (R.disk r) n) R.Disk.is_honest replica.old replica.new }
     ensures whole { (IsErrOf result call_error.Failed → ⊥) → R.is_whole replica.new }
     ensures failed { IsErrOf result call_error.Failed → HasRisen (R.Disk.faults (R.disk replica.old)) (R.Disk.faults (R.disk replica.new)) }
     ensures surely { IsErrOf result call_error.Failed → ((n : ℕ) → R.Disk.spares (R.disk replica.old) n) → ⊥ }
 {
     match what {
-        What::Client(ask) => Ok(work.ask(base, alloc, ask)?),
-        What::Deliver(message) => take_message(base, replica, alloc, work, message),
-        What::Alive(peer, up) => Ok(work.mark(base, alloc, peer, up)?),
-        What::Flush | What::Tick => Ok(Given::nothing(alloc)),
+        What::Client(ask) => Ok(work.ask(base, hints, alloc, moved(ask))?),
+        What::Deliver(message) => take_message(base, hints, replica, alloc, work, message),
+        What::Alive(peer, up) => Ok(work.mark_other(base, hints, alloc, *peer, *up)?),
+        What::Collect(_) | What::Flush | What::Tick => Ok(Given::nothing(alloc)),
     }
 }
 
 /// Hears all that the node sends to itself, in order.
 fn settle<R: Replica>(
     base: &Base,
+    hints: &mut HintStore,
     replica: &mut R,
     alloc: Global,
     work: &mut Work,
 ) -> Result<(), CallError>
     requires whole { R.is_whole replica.old }
-    requires writes { IsOrdered request_cmp base.now.writes }
-    requires reads { IsOrdered request_cmp base.now.reads }
+    requires holding { IsHolding base.now }
     requires sound { IsSound base.now work.old }
-    ensures ok { OnOk result (IsSettled base.now R.Disk.is_honest (R.durable replica.old) work.old work.new) }
+    ensures ok { OnOk result (IsSettled base.now R.Disk.is_honest (R.durable replica.old) (at work.old hints.old.now) (at work.new hints.new.now)) }
+    ensures before { hints.new.before ≡ hints.old.before }
     ensures cut { IsErrOf result call_error.Failed → CutsOn base.now work.old work.new }
     ensures peeks { Peeks R.stands_for (λ r. R.Disk.disk (R.disk r)) R.durable R.log_end (λ r. R.Disk.faults (R.disk r)) (λ r n. R.Disk.spares (R.disk r) n) R.Disk.is_honest replica.old replica.new }
     ensures whole { (IsErrOf result call_error.Failed → ⊥) → R.is_whole replica.new }
     ensures failed { IsErrOf result call_error.Failed → HasRisen (R.Disk.faults (R.disk replica.old)) (R.Disk.faults (R.disk replica.new)) }
     ensures surely { IsErrOf result call_error.Failed → ((n : ℕ) → R.Disk.spares (R.disk replica.old) n) → ⊥ }
 {
-    while let Some(sent) = work.queue.pop_front() {
-        hear_own(base, replica, alloc, work, sent)?;
+    while let Some(mut sent) = work.queue.pop_front() {
+        hear_own(base, hints, replica, alloc, work, &mut sent)?;
     }
     Ok(())
 }
 
-/// Takes the event's own matter, and all that comes of it at the node itself.
+/// Takes the event's own matter, which it moves, and all that comes of it at the node itself.
 pub(crate) fn work_out<R: Replica>(
     base: &Base,
+    hints: &mut HintStore,
     replica: &mut R,
     alloc: Global,
     work: &mut Work,
-    what: What,
+    what: &mut What,
 ) -> Result<(), CallError>
     requires whole { R.is_whole replica.old }
-    requires writes { IsOrdered request_cmp base.now.writes }
-    requires reads { IsOrdered request_cmp base.now.reads }
-    requires fresh { IsFresh work.old }
-    requires about { IsAbout base.now.me work.old.time what work.old.request }
+    requires holding { IsHolding base.now }
+    requires unmoved { IsUnmoved work.old }
+    requires sound { IsSound base.now work.old }
+    requires about { IsAbout base.now.me work.old.time what.old work.old.request }
     requires new { IsNewTo base.now work.old.time }
     requires time { work.old.time < 2 ^ 63 }
-    ensures ok { OnOk result (IsWorkedOut base.now R.Disk.is_honest (R.durable replica.old) (matter_of base.now.setting base.now.me what) work.old work.new) }
-    ensures cut { IsErrOf result call_error.Failed → R.Disk.is_honest → CutsIn base.now (R.durable replica.old) (matter_of base.now.setting base.now.me what) work.old work.new }
+    ensures ok { OnOk result (IsWorkedOut base.now R.Disk.is_honest (R.durable replica.old) (matter_of base.now.setting base.now.me what.old) (at work.old hints.old.now) (at work.new hints.new.now)) }
+    ensures before { hints.new.before ≡ hints.old.before }
+    ensures cut { IsErrOf result call_error.Failed → R.Disk.is_honest → CutsIn base.now (R.durable replica.old) (matter_of base.now.setting base.now.me what.old) (at work.old hints.old.now) work.new }
     ensures peeks { Peeks R.stands_for (λ r. R.Disk.disk (R.disk r)) R.durable R.log_end (λ r. R.Disk.faults (R.disk r)) (λ r n. R.Disk.spares (R.disk r) n) R.Disk.is_honest replica.old replica.new }
     ensures whole { (IsErrOf result call_error.Failed → ⊥) → R.is_whole replica.new }
     ensures failed { IsErrOf result call_error.Failed → HasRisen (R.Disk.faults (R.disk replica.old)) (R.Disk.faults (R.disk replica.new)) }
     ensures surely { IsErrOf result call_error.Failed → ((n : ℕ) → R.Disk.spares (R.disk replica.old) n) → ⊥ }
 {
-    let given = take(base, replica, alloc, work, what)?;
+    let given = take(base, hints, replica, alloc, work, what)?;
     work.give(base.me, given)?;
-    settle(base, replica, alloc, work)
+    settle(base, hints, replica, alloc, work)
 }

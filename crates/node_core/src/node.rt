@@ -4,6 +4,7 @@ ghost use Rattle.std.specs.Prelude.{◌≡◌, ◌≤◌, ◌<◌, ℕ, [], true
 ghost use Rattle.cs_base.specs.Faults.{HasRisen};
 ghost use Rattle.cs_store.specs.Disk.{IsSettled};
 ghost use Rattle.durable_state.specs.State.{Durable, IsSameKept};
+ghost use Rattle.node_steps.specs.Holding.{HoldsFit};
 ghost use Rattle.node_steps.specs.State.{loaded};
 ghost use Rattle.node_steps.specs.Steps.{risen_time, end_of_time};
 ghost use Rattle.node_steps.specs.Stops.{remains};
@@ -11,16 +12,18 @@ ghost use Rattle.replica.specs.Finding.{AlwaysLeaves};
 ghost use Rattle.replica.specs.Kept.{IsKeptOf};
 ghost use Rattle.replica.specs.declared.error.LoadError.TheVariants as load_error;
 ghost use Rattle.node_core.specs.Nodes.{state_with, Steps, WouldKeep, HasRoom, HasNoRoom, IsTooLarge, Halts, IsBeforeOrBehind};
-ghost use Rattle.node_core.specs.Memory.{has_stopped as has_stopped_of};
+ghost use Rattle.node_core.specs.Memory.{has_stopped as has_stopped_of, IsLoaded};
 ghost use Rattle.node_core.specs.declared.outcome.StepError.TheVariants as step_error;
 
 use crate::base::Base;
 use crate::memory::{Memory, advance};
 use crate::outcome::{Lost, StepError};
 use cs_base::{Items, NodeId};
+use hint_store::HintStore;
+use node_steps::what_fits_is_tested;
 use peer_messages::{Event, Outputs, Setting};
 use replica::{Kept, LoadError, Replica};
-use std::alloc::Global;
+use std::alloc::{AllocError, Global};
 use std::collections::BTreeMap;
 use std::marker::Model;
 
@@ -39,7 +42,7 @@ impl Model for NodeCore {
 
     ghost view = { λ a. record (core_of a.memory) { runs = a.runs } };
 
-    ghost invariant = { λ a. HoldsCore a.memory.base a.memory.time };
+    ghost invariant = { λ a. HoldsCore a.memory };
 }
 
 /// A node: what it has in memory, and what keeps its durable state.
@@ -63,51 +66,77 @@ impl NodeCore {
         self.memory.base.down.as_slice()
     }
 
-    fn loaded(alloc: Global, me: NodeId, setting: Setting, kept: Kept) -> NodeCore
-        ensures { result ≡ record { setting = setting; me = me; runs = true; time = kept.ceiling; risen = kept.ceiling; kept = kept; down = []; writes = []; reads = [] } }
+    fn loaded(
+        alloc: Global,
+        me: NodeId,
+        setting: Setting,
+        kept: Kept,
+    ) -> Result<NodeCore, AllocError>
+        ensures { IfOk result (λ core. IsLoaded me setting kept core) }
     {
-        let time = kept.ceiling;
+        let Kept {
+            ceiling,
+            rows,
+            hints,
+            numbers,
+            marks,
+        } = kept;
+        let hints = HintStore::restore(alloc, hints, numbers.as_slice())?;
+        let kept = Kept {
+            ceiling,
+            rows,
+            hints: Items::new(alloc),
+            numbers: Items::new(alloc),
+            marks,
+        };
         let base = Base {
             setting,
             me,
             down: Items::new(alloc),
+            batches: Items::new(alloc),
             writes: BTreeMap::new(alloc),
             reads: BTreeMap::new(alloc),
+            unanswered: 0,
         };
-        NodeCore {
-            memory: Memory { base, time, kept },
+        Ok(NodeCore {
+            memory: Memory {
+                base,
+                time: ceiling,
+                kept,
+                hints,
+            },
             runs: true,
-        }
+        })
     }
 
     fn step<R: Replica>(
         &mut self,
         replica: &mut R,
         alloc: Global,
-        event: Event,
+        event: &mut Event,
     ) -> Result<Outputs, StepError>
         requires whole { self.old.runs ≡ true → R.is_whole replica.old }
         requires tied { self.old.runs ≡ true → R.Disk.is_honest → IsKeptOf (R.durable replica.old) self.old.kept }
 
         ensures runs { OnOk result (self.old.runs ≡ true) }
-        ensures ok { IfOk result (λ outputs. R.Disk.is_honest → Steps self.old (R.durable replica.old) event outputs self.new (R.durable replica.new)) }
+        ensures ok { IfOk result (λ outputs. R.Disk.is_honest → Steps self.old (R.durable replica.old) event.old outputs self.new (R.durable replica.new)) }
         ensures whole { self.new.runs ≡ true → R.is_whole replica.new }
         ensures tied { self.new.runs ≡ true → R.Disk.is_honest → IsKeptOf (R.durable replica.new) self.new.kept }
-        ensures late { OnOk result (risen_time self.old.time event ≤ end_of_time) }
-        ensures room { OnOk result (R.Disk.is_honest → WouldKeep self.old (R.durable replica.old) event (HasRoom (R.log_end replica.old) (R.durable replica.old))) }
-        ensures no_room { IsErrOf result step_error.NoRoom → R.Disk.is_honest → HasNoRoom self.old (R.durable replica.old) (R.log_end replica.old) event }
-        ensures too_large { (p : _) → IsErrOf result (step_error.TooLarge p) → R.Disk.is_honest → IsTooLarge self.old (R.durable replica.old) event p }
+        ensures late { OnOk result (risen_time self.old.time event.old ≤ end_of_time) }
+        ensures room { OnOk result (R.Disk.is_honest → WouldKeep self.old (R.durable replica.old) event.old (HasRoom (R.log_end replica.old) (R.durable replica.old))) }
+        ensures no_room { IsErrOf result step_error.NoRoom → R.Disk.is_honest → HasNoRoom self.old (R.durable replica.old) (R.log_end replica.old) event.old }
+        ensures too_large { (p : _) → IsErrOf result (step_error.TooLarge p) → R.Disk.is_honest → IsTooLarge self.old (R.durable replica.old) event.old p }
         ensures same { OnErr result (self.new.runs ≡ true → (self.new ≡ self.old) × (R.Disk.is_honest → R.durable replica.new ≡ R.durable replica.old)) }
         ensures failed { (l : _) → IsErrOf result (step_error.Failed l) → self.new ≡ record self.old { runs = false } }
         ensures others { OnErr result (((l : _) → IsErrOf result (step_error.Failed l) → ⊥) → self.new.runs ≡ true) }
         ensures cause { (l : _) → IsErrOf result (step_error.Failed l) → self.old.runs ≡ true → HasRisen (R.Disk.faults (R.disk replica.old)) (R.Disk.faults (R.disk replica.new)) }
-        ensures halts { (l : _) → IsErrOf result (step_error.Failed l) → self.old.runs ≡ true → R.Disk.is_honest → Halts self.old (R.durable replica.old) event (remains l.started l.entries) R.stands_for (R.Disk.disk (R.disk replica.new)) }
+        ensures halts { (l : _) → IsErrOf result (step_error.Failed l) → self.old.runs ≡ true → R.Disk.is_honest → Halts self.old (R.durable replica.old) event.old (remains l.started l.entries) R.stands_for (R.Disk.disk (R.disk replica.new)) }
         ensures dead { self.old.runs ≡ false → (self.new ≡ self.old) × (replica.new ≡ replica.old) }
         ensures told { (l : _) → IsErrOf result (step_error.Failed l) → self.old.runs ≡ false → remains l.started l.entries ≡ [] }
         ensures surely { self.old.runs ≡ true → ((n : ℕ) → R.Disk.spares (R.disk replica.old) n) → ((l : _) → IsErrOf result (step_error.Failed l) → ⊥) × ((n : ℕ) → R.Disk.spares (R.disk replica.new) n) }
 
         // A crash at any moment of the step leaves what was kept before it or behind it.
-        ensures any_moment { self.old.runs ≡ true → R.Disk.is_honest → AlwaysLeaves R.stands_for (IsBeforeOrBehind self.old (R.durable replica.old) event) (R.Disk.disk (R.disk replica.old)) (R.Disk.disk (R.disk replica.new)) }
+        ensures any_moment { self.old.runs ≡ true → R.Disk.is_honest → AlwaysLeaves R.stands_for (IsBeforeOrBehind self.old (R.durable replica.old) event.old) (R.Disk.disk (R.disk replica.old)) (R.Disk.disk (R.disk replica.new)) }
     {
         if !self.runs {
             return Err(StepError::Failed(Lost::nothing(alloc)));
@@ -134,6 +163,7 @@ impl<R: Replica> Node<R> {
         ensures core { IfOk result (λ n. (n.core.me ≡ me) × (n.core.setting ≡ setting) × (n.core.runs ≡ true)) }
         ensures tied { IfOk result (λ n. R.Disk.is_honest → IsKeptOf (R.durable n.replica) n.core.kept) }
         ensures whole { IfOk result (λ n. R.is_whole n.replica) }
+        ensures fits { IfOk result (λ n. R.Disk.is_honest → HoldsFit (state_with n.core (R.durable n.replica))) }
 
         // A crash at any moment leaves what was there.
         ensures any_moment { IfOk result (λ n. R.Disk.is_honest → (d : Durable) → R.stands_for (R.Disk.disk store).seen d → AlwaysLeaves R.stands_for (IsSameKept d) (R.Disk.disk store) (R.Disk.disk (R.disk n.replica))) }
@@ -144,11 +174,12 @@ impl<R: Replica> Node<R> {
         ensures damaged { (s : _) (f p : ℕ) → IsErrOf result (load_error.Damaged s f p) → R.Disk.is_honest → R.is_damaged (R.Disk.disk store).seen f p }
         ensures surely { ((n : ℕ) → R.Disk.spares store n) → ((s : _) → IsErrOf result (load_error.Failed s) → ⊥) × IfOk result (λ l. (n : ℕ) → R.Disk.spares (R.disk l.replica) n) }
     {
+        what_fits_is_tested();
         let (replica, kept) = R::load(alloc, store)?;
-        Ok(Node {
-            core: NodeCore::loaded(alloc, me, setting, kept),
-            replica,
-        })
+        match NodeCore::loaded(alloc, me, setting, kept) {
+            Ok(core) => Ok(Node { core, replica }),
+            Err(_) => Err(LoadError::NoMemory(replica.release())),
+        }
     }
 
     /// Takes an event.
@@ -156,7 +187,7 @@ impl<R: Replica> Node<R> {
     /// After `NoRoom`, `TooLarge` and `NoMemory` the node and what it keeps are as they were, and the event has not happened.
     /// After `Failed` it has stopped: the step is made, with its outputs lost, or it is not, and each later one answers `Failed`
     /// too.
-    pub fn step(&mut self, alloc: Global, event: Event) -> Result<Outputs, StepError>
+    pub fn step(&mut self, alloc: Global, mut event: Event) -> Result<Outputs, StepError>
         requires whole { self.old.core.runs ≡ true → R.is_whole self.old.replica }
         requires tied { self.old.core.runs ≡ true → R.Disk.is_honest → IsKeptOf (R.durable self.old.replica) self.old.core.kept }
 
@@ -180,7 +211,7 @@ impl<R: Replica> Node<R> {
         // A crash at any moment of the step leaves what was kept before it or behind it.
         ensures any_moment { self.old.core.runs ≡ true → R.Disk.is_honest → AlwaysLeaves R.stands_for (IsBeforeOrBehind self.old.core (R.durable self.old.replica) event) (R.Disk.disk (R.disk self.old.replica)) (R.Disk.disk (R.disk self.new.replica)) }
     {
-        self.core.step(&mut self.replica, alloc, event)
+        self.core.step(&mut self.replica, alloc, &mut event)
     }
 
     /// The node's disk, to be loaded again.

@@ -2,16 +2,17 @@
 //! rest behind it, which takes none.
 
 ghost use Rattle.std.specs.Prelude.{◌≡◌, IfOk, OnOk, OnErr};
-ghost use Rattle.std.specs.BTreeMap.{IsOrdered};
+ghost use Rattle.std.specs.BTreeMap.{IsOrdered, is_at};
+ghost use Rattle.std.specs.Map.{remove_entry, set_value};
 ghost use Rattle.cs_base.specs.Requests.{request_cmp};
-ghost use Rattle.node_core.specs.Working.{IsSlotOf};
+ghost use Rattle.node_core.specs.Working.{left_open};
 ghost use Rattle.node_core.specs.declared.slot.Slot.TheVariants.{Old};
-ghost use Rattle.node_core.specs.Opening.{with_begun, without_begun, with_rest, LeavesRest, IsBegunAs, AreOrdered, known_of, known_with, known_without};
+ghost use Rattle.node_core.specs.Opening.{with_begun, without_begun, with_rest, LeavesRest, IsBegunAs, AreOrdered, MayPut, known_of, known_with, known_without, rest_of};
 
 use crate::base::Base;
 use crate::slot::Slot;
+use crate::work::Work;
 use cs_base::ReqId;
-use peer_messages::NodeIds;
 use read_coord::ReadCoord;
 use std::alloc::AllocError;
 use std::collections::BTreeMap;
@@ -81,7 +82,95 @@ fn finish<W: Drop>(requests: &mut BTreeMap<ReqId, W>, request: &ReqId, rest: &mu
     }
 }
 
+/// Takes out the reads whose deadline came.
+fn end_reads<W: Drop>(requests: &mut BTreeMap<ReqId, W>, ended: &[ReqId])
+    requires ordered { IsOrdered request_cmp requests.old }
+    ensures entries { requests.new.entries ≡ left_open ended.now requests.old.entries }
+    ensures ordered { IsOrdered request_cmp requests.new }
+{
+    for request in ended {
+        requests.remove(request);
+    }
+}
+
 impl Base {
+    /// Puts in a write that the step began, and tells whether it did. An error leaves the node as it was.
+    fn begin_write(
+        &mut self,
+        request: ReqId,
+        slot: &mut Slot<WriteCoord>,
+    ) -> Result<bool, AllocError>
+        requires ordered { AreOrdered self.old }
+        requires slot { MayPut request self.old.writes.entries slot.old }
+        ensures known { OnOk result (known_of self.new ≡ record (known_of self.old) { writes = with_begun request slot.old self.old.writes.entries }) }
+        ensures rest { IfOk result (λ began. LeavesRest slot.old began slot.new) }
+        ensures err { OnErr result (known_of self.new ≡ known_of self.old) }
+        ensures ordered { AreOrdered self.new }
+    {
+        let Some(now) = slot.take_new() else {
+            return Ok(false);
+        };
+        // so the count has room for one more
+        let _most = self.writes.len();
+        let waits = usize::from(!now.is_answered());
+        self.writes.insert(request, now)?;
+        self.unanswered += waits;
+        Ok(true)
+    }
+
+    /// Takes a write out, if it is open.
+    fn remove_write(&mut self, request: &ReqId)
+        requires ordered { AreOrdered self.old }
+        ensures known { known_of self.new ≡ record (known_of self.old) { writes = remove_entry (is_at (request_cmp request.now)) self.old.writes.entries } }
+        ensures ordered { AreOrdered self.new }
+    {
+        if let Some(write) = self.writes.remove(request) {
+            self.unanswered -= usize::from(!write.is_answered());
+        }
+    }
+
+    /// Has an open write be this.
+    fn replace_write(&mut self, request: &ReqId, now: WriteCoord)
+        requires ordered { AreOrdered self.old }
+        ensures known { known_of self.new ≡ record (known_of self.old) { writes = set_value (is_at (request_cmp request.now)) self.old.writes.entries now } }
+        ensures ordered { AreOrdered self.new }
+    {
+        let _most = self.writes.len();
+        if let Some(place) = self.writes.get_mut(request) {
+            let before = usize::from(!place.is_answered());
+            let after = usize::from(!now.is_answered());
+            *place = now;
+            self.unanswered = self.unanswered - before + after;
+        }
+    }
+
+    /// Puts in what the step made of a write that was open before. It takes no memory.
+    fn finish_write(&mut self, request: &ReqId, rest: &mut Slot<WriteCoord>)
+        requires ordered { AreOrdered self.old }
+        ensures known { known_of self.new ≡ record (known_of self.old) { writes = with_rest request.now rest.old self.old.writes.entries } }
+        ensures ordered { AreOrdered self.new }
+    {
+        if rest.is_gone() {
+            self.remove_write(request);
+            return;
+        }
+        if let Some(now) = rest.take_old() {
+            self.replace_write(request, now);
+        }
+    }
+
+    /// Takes out the requests whose deadline came.
+    fn end_due(&mut self, writes: &[ReqId], reads: &[ReqId])
+        requires ordered { AreOrdered self.old }
+        ensures known { known_of self.new ≡ record (known_of self.old) { writes = left_open writes.now self.old.writes.entries; reads = left_open reads.now self.old.reads.entries } }
+        ensures ordered { AreOrdered self.new }
+    {
+        for request in writes {
+            self.remove_write(request);
+        }
+        end_reads(&mut self.reads, reads);
+    }
+
     /// Puts in what the step began, and leaves the rest where it is. An error leaves the node as it was.
     pub(crate) fn put_begun(
         &mut self,
@@ -90,19 +179,29 @@ impl Base {
         read: &mut Slot<ReadCoord>,
     ) -> Result<Began, AllocError>
         requires ordered { AreOrdered self.old }
-        requires write { IsSlotOf request self.old.writes.entries write.old }
-        requires read { IsSlotOf request self.old.reads.entries read.old }
+        requires write { MayPut request self.old.writes.entries write.old }
+        requires read { MayPut request self.old.reads.entries read.old }
         ensures ok { IfOk result (λ began. IsBegunAs request write.old read.old self.old began write.new read.new self.new) }
         ensures err { OnErr result (known_of self.new ≡ known_of self.old) }
         ensures ordered { AreOrdered self.new }
     {
-        let began = begin(&mut self.writes, request, write)?;
+        let began = self.begin_write(request, write)?;
         match begin(&mut self.reads, request, read) {
             Ok(read) => Ok(Began { write: began, read }),
             Err(error) => {
-                undo(&mut self.writes, &request, began);
+                self.undo_write(&request, began);
                 Err(error)
             }
+        }
+    }
+
+    fn undo_write(&mut self, request: &ReqId, began: bool)
+        requires ordered { AreOrdered self.old }
+        ensures known { known_of self.new ≡ record (known_of self.old) { writes = without_begun request.now began self.old.writes.entries } }
+        ensures ordered { AreOrdered self.new }
+    {
+        if began {
+            self.remove_write(request);
         }
     }
 
@@ -112,26 +211,27 @@ impl Base {
         ensures known { known_of self.new ≡ known_without request.now began self.old }
         ensures ordered { AreOrdered self.new }
     {
-        undo(&mut self.writes, request, began.write);
+        self.undo_write(request, began.write);
         undo(&mut self.reads, request, began.read);
     }
 
-    /// Puts in the rest of what the step made, and whom it marked.
-    pub(crate) fn put_rest(
-        &mut self,
-        request: &ReqId,
-        write: &mut Slot<WriteCoord>,
-        read: &mut Slot<ReadCoord>,
-        marked: &mut Option<NodeIds>,
-    )
+    /// Takes out what was due, and puts in the rest of what the step made, whom it marked, and the hints that it waits for. It
+    /// takes no memory.
+    pub(crate) fn put_rest(&mut self, work: &mut Work)
         requires ordered { AreOrdered self.old }
-        ensures known { known_of self.new ≡ known_with request.now write.old read.old marked.old self.old }
+        ensures known { known_of self.new ≡ known_with (rest_of work.old) self.old }
         ensures ordered { AreOrdered self.new }
+        ensures work { work.new ≡ record work.old { write = work.new.write; read = work.new.read; marked = work.new.marked; batches = work.new.batches } }
     {
-        finish(&mut self.writes, request, write);
-        finish(&mut self.reads, request, read);
-        if let Some(down) = marked.take() {
+        let request = work.request;
+        self.end_due(work.ended_writes.as_slice(), work.ended_reads.as_slice());
+        self.finish_write(&request, &mut work.write);
+        finish(&mut self.reads, &request, &mut work.read);
+        if let Some(down) = work.marked.take() {
             self.down = down;
+        }
+        if let Some(batches) = work.batches.take() {
+            self.batches = batches;
         }
     }
 }

@@ -2,7 +2,7 @@
 
 ghost use Rattle.std.specs.Prelude.{◌≡◌, ◌↔◌, IsTrue, false};
 ghost use Rattle.node_core.specs.Slots.{IsFound, TakesNew, TakesOld, slot_after};
-ghost use Rattle.node_core.specs.declared.slot.Slot.TheVariants.{Gone};
+ghost use Rattle.node_core.specs.declared.slot.Slot.TheVariants.{Untouched, Gone};
 
 use std::mem;
 
@@ -81,6 +81,12 @@ impl<W: Drop> Slot<W> {
             (false, true) => Slot::Gone,
             (false, false) => Slot::Old(now),
         }
+    }
+
+    pub(crate) fn is_untouched(&self) -> bool
+        ensures { IsTrue result ↔ (self.now ≡ Untouched) }
+    {
+        matches!(self, Slot::Untouched)
     }
 
     pub(crate) fn is_gone(&self) -> bool

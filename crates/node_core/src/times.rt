@@ -34,7 +34,7 @@ pub(crate) fn is_ahead(time: Micros, event: &Event) -> bool
             let latest = time.count().max(reading(event));
             u128::from(latest) + u128::from(LEAD) < u128::from(message.time.count())
         }
-        What::Client(_) | What::Alive(..) | What::Flush | What::Tick => false,
+        What::Client(_) | What::Alive(..) | What::Collect(_) | What::Flush | What::Tick => false,
     }
 }
 
@@ -43,7 +43,7 @@ fn message_time(what: &What) -> u128
 {
     match what {
         What::Deliver(message) => u128::from(message.time.count()) + 1,
-        What::Client(_) | What::Alive(..) | What::Flush | What::Tick => 0,
+        What::Client(_) | What::Alive(..) | What::Collect(_) | What::Flush | What::Tick => 0,
     }
 }
 
@@ -97,7 +97,7 @@ pub(crate) fn is_refused(setting: &Setting, before: Micros, time: Micros, event:
 {
     match &event.what {
         What::Deliver(message) => is_ahead(before, event) || is_old(setting, time, message.born),
-        What::Client(_) | What::Alive(..) | What::Flush | What::Tick => false,
+        What::Client(_) | What::Alive(..) | What::Collect(_) | What::Flush | What::Tick => false,
     }
 }
 
@@ -107,7 +107,7 @@ pub(crate) fn request_began(me: NodeId, time: Micros, what: &What) -> Option<Req
 {
     match what {
         What::Client(_) => Some(ReqId { node: me, time }),
-        What::Deliver(_) | What::Alive(..) | What::Flush | What::Tick => None,
+        What::Deliver(_) | What::Alive(..) | What::Collect(_) | What::Flush | What::Tick => None,
     }
 }
 

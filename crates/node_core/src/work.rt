@@ -4,16 +4,18 @@ ghost use Rattle.std.specs.Prelude.{◌≡◌, ◌∷◌, ◌++◌, [], OnOk, If
 ghost use Rattle.node_steps.specs.Steps.{message_of, messages_of};
 ghost use Rattle.node_core.specs.Working.{own_sent};
 
+use crate::base::Base;
+use crate::batches::{Batches, Waiting};
 use crate::slot::Slot;
 use cs_base::{Items, Micros, NodeId, ReqId};
-use peer_messages::{Body, Entries, Message, Messages, Move, NodeIds, Outbound, Sends};
+use peer_messages::{Entries, Message, Messages, Move, NodeIds, Outbound, Sends};
 use read_coord::ReadCoord;
 use row_change::LogItem;
 use std::alloc::{AllocError, Global};
 use std::collections::VecDeque;
 use write_coord::WriteCoord;
 
-/// What a step has made so far, at the time to which it rose. It is of one request.
+/// What a step has made so far, at the time to which it rose. Beside what was due, it is of one request.
 #[derive(Drop)]
 pub(crate) struct Work {
     pub time: Micros,
@@ -21,10 +23,21 @@ pub(crate) struct Work {
     pub request: ReqId,
     /// The nodes that it takes for dead, where the step marked one.
     pub marked: Option<NodeIds>,
+    /// The hints that are waited for, where the step sent some or one was acknowledged.
+    pub batches: Option<Batches>,
+    /// The requests whose deadline came, in order.
+    pub ended_writes: Items<ReqId>,
+    pub ended_reads: Items<ReqId>,
+    /// Of the requests that are left open: how many writes have no answer, and how many reads there are.
+    pub unanswered: usize,
+    pub open_reads: usize,
+    /// Of the request that the step is about.
     pub write: Slot<WriteCoord>,
     pub read: Slot<ReadCoord>,
-    /// The changes that it takes in.
-    pub items: Items<LogItem>,
+    /// The changes that it takes in, the hints that come, and those that go: each in its order.
+    pub taken: Items<LogItem>,
+    pub made: Items<LogItem>,
+    pub gone: Items<LogItem>,
     pub messages: Messages,
     pub entries: Entries,
     /// What the node has yet to hear of its own.
@@ -36,15 +49,6 @@ pub(crate) struct Work {
 pub(crate) struct Given {
     pub sends: Sends,
     pub entries: Entries,
-}
-
-/// A body that comes to a node, its own ones too.
-#[derive(Drop)]
-pub(crate) struct Heard {
-    pub from: NodeId,
-    pub born: Micros,
-    pub request: ReqId,
-    pub body: Body,
 }
 
 fn message(me: NodeId, sent: Outbound, time: Micros) -> Message
@@ -84,7 +88,27 @@ impl Given {
 }
 
 impl Work {
-    ghost use Rattle.node_core.specs.Working.{IsSent};
+    ghost use Rattle.node_core.specs.Working.{IsSent, batches_with, down_with};
+
+    /// The batches, as the step leaves them so far.
+    pub(crate) fn batches<'a>(&'a self, base: &'a Base) -> &'a [Waiting]
+        ensures { result.now ≡ batches_with self.now.batches base.now.batches }
+    {
+        match &self.batches {
+            Some(batches) => batches.as_slice(),
+            None => base.batches.as_slice(),
+        }
+    }
+
+    /// The nodes that are taken for dead, as the step leaves them so far.
+    pub(crate) fn down<'a>(&'a self, base: &'a Base) -> &'a [NodeId]
+        ensures { result.now ≡ down_with self.now.marked base.now.down }
+    {
+        match &self.marked {
+            Some(down) => down.as_slice(),
+            None => base.down.as_slice(),
+        }
+    }
 
     /// Sends a body, or has the node hear it.
     fn send(&mut self, me: NodeId, sent: Outbound) -> Result<(), AllocError>
@@ -101,6 +125,9 @@ impl Work {
     fn send_all(&mut self, me: NodeId, sends: Sends) -> Result<(), AllocError>
         ensures { OnOk result (IsSent me sends self.old self.new) }
     {
+        if sends.as_slice().is_empty() {
+            return Ok(());
+        }
         for sent in sends.into_vec() {
             self.send(me, sent)?;
         }

@@ -20,6 +20,6 @@ failed_stops c me s e o entry d leads (inr (after, commits, same)) =
 
 pub step_is_cut : (c : Setting) (me : ℕ) (s : NodeState) (e : Event) (deeds : List Deed) (o : Outputs) (s' : NodeState) → NodeStep c me s e deeds o s' → CutStep c me s e deeds × (remains_of o ≡ remains_in me s e deeds)
 step_is_cut c me s e deeds o s' step = (
-  record { reached = s'; pending = []; left = []; moves = step.moves; taken = λ ask h. contains_nil _ h },
+  record { reached = s'; pending = []; left = []; due = step.due; are_due = step.are_due; moves = step.moves; taken = λ ask h. contains_nil _ h },
   ap remains_of step.outputs,
 )

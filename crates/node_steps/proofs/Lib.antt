@@ -1,7 +1,10 @@
 mod Fitting
 mod ByKind
+pub mod Opened
+pub mod HintLists
+pub mod HintMembers
 pub mod Written
-mod Answering
+pub mod Answering
 pub mod Entries
 pub mod Failing
 pub mod Leading

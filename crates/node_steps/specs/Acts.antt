@@ -1,11 +1,14 @@
 -- The small moves of a node: each takes one thing, and is told of that node's state alone.
-use Rattle.std.specs.Prelude.{◌≡◌, ℕ, Bool, ◌+◌, ◌<◌, ◌==◌, nat_lt, if◌then◌else◌, List, [], ◌∷◌, ◌++◌, MatchBool}
+use Rattle.std.specs.Prelude.{◌≡◌, ℕ, Bool, ◌+◌, ◌<◌, ◌==◌, nat_lt, if◌then◌else◌, true, false, Option, Some, None, List, [], ◌∷◌, ◌++◌, MatchBool}
+use Rattle.std.specs.BTreeMap.{is_at}
+use Rattle.std.specs.Map.{remove_entry}
 use Rattle.cs_base.specs.declared.ids.ReqId.{ReqId}
+use Rattle.cs_base.specs.Requests.{request_cmp}
 use Rattle.changes.specs.declared.Held.{Held}
 use Rattle.changes.specs.declared.Partition.{Partition}
 use Rattle.peer_messages.specs.declared.event.Ask.{Ask}
 use Rattle.peer_messages.specs.declared.message.Body.{Body}
-use Rattle.peer_messages.specs.declared.message.Body.TheVariants.{Write, WriteAck, Read, ReadReply}
+use Rattle.peer_messages.specs.declared.message.Body.TheVariants.{Write, WriteAck, Read, ReadReply, Hint, HintAck}
 use Rattle.peer_messages.specs.declared.outcome.Outbound.{Outbound}
 use Rattle.peer_messages.specs.declared.outcome.Move.{Move}
 use Rattle.peer_messages.specs.declared.setting.Setting.{Setting}
@@ -13,11 +16,12 @@ use Rattle.peer_messages.specs.Settings.{marked}
 use Rattle.durable_state.specs.State.{changes_of}
 use Rattle.durable_state.specs.Taking.{TakesIn, ArriveAt}
 use Rattle.node_steps.specs.State.{NodeState, OpenWrite, OpenRead}
-use Rattle.node_steps.specs.Effects.{Effects, nothing, effects_of, AtRequest}
-use Rattle.node_steps.specs.Writes.{HearsAck}
-use Rattle.node_steps.specs.Reads.{HearsReply}
+use Rattle.node_steps.specs.Effects.{Effects, nothing, effects_of, open_at, AtRequest}
+use Rattle.node_steps.specs.Hints.{hints_in, drop_hint, with_hints_of, with_sent, sends_hints, hint_acked, sends_next}
+use Rattle.node_steps.specs.Writes.{HearsAck, write_told, unheard}
+use Rattle.node_steps.specs.Reads.{HearsReply, replies_of, read_needs, read_timeout}
 use Rattle.node_steps.specs.Replicas.{Asker, replies, IsReplyTo}
-use Rattle.node_steps.specs.Requests.{refusal_of, BeginsOrRefuses}
+use Rattle.node_steps.specs.Requests.{refusal_of, leaves_hints, BeginsOrRefuses}
 
 -- a body that comes to a node, its own ones too
 pub record Incoming : Type 0 where
@@ -35,6 +39,10 @@ pub data Act : Type 0 where
   Asks : (ask : Ask) → Act
   -- another node is marked alive, or else dead
   Marks : (peer : ℕ) (up : Bool) → Act
+  -- the deadline of a request comes
+  DeadlineComes : (request : ReqId) → Act
+  -- a hint has come to be too old
+  HintExpires : (peer number : ℕ) → Act
 
 -- a request's id: its node, and the time to which the step rose in which it began
 abbrev pub request_at : ℕ → ℕ → ReqId
@@ -52,12 +60,14 @@ TakesChanges a p changes reply s o s' =
     TakesIn (changes_of s.content) p changes (changes_of s'.content) × ArriveAt s.risen s.content s'.content
     × (o ≡ replies a reply) × (s' ≡ record s { content = s'.content })
 
--- by what came
-abbrev pub HearsBody : Setting → Asker → Body → NodeState → Effects → NodeState → Type 0
-HearsBody c a (Write m) s o s' = TakesChanges a m.partition m.changes WriteAck s o s'
-HearsBody c a WriteAck s o s' = AtWrite (HearsAck c a.request a.from) a.request s o s'
-HearsBody c a (Read q) s o s' = (part : List Held) × IsReplyTo (changes_of s.content) q part × (o ≡ replies a (ReadReply part)) × (s' ≡ s)
-HearsBody c a (ReadReply content) s o s' = AtRead (HearsReply c a.request a.from content) a.request s o s'
+-- by what came to node me
+abbrev pub HearsBody : Setting → ℕ → Asker → Body → NodeState → Effects → NodeState → Type 0
+HearsBody c me a (Write m) s o s' = TakesChanges a m.partition m.changes WriteAck s o s'
+HearsBody c me a WriteAck s o s' = AtWrite (HearsAck c a.request a.from) a.request s o s'
+HearsBody c me a (Read q) s o s' = (part : List Held) × IsReplyTo (changes_of s.content) q part × (o ≡ replies a (ReadReply part)) × (s' ≡ s)
+HearsBody c me a (ReadReply content) s o s' = AtRead (HearsReply c a.request a.from content) a.request s o s'
+HearsBody c me a (Hint number m) s o s' = TakesChanges a m.partition m.changes (HintAck number) s o s'
+HearsBody c me a (HintAck number) s o s' = (o ≡ record { sends = sends_next c me s a.from number; entries = [] }) × (s' ≡ hint_acked c s a.from number)
 
 -- a time that passes the ceiling raises it a second above itself
 abbrev pub ceiling_after : ℕ → ℕ → ℕ
@@ -70,12 +80,38 @@ is_old c time born = nat_lt (born + c.expiry) time
 abbrev pub asker_of : Incoming → Asker
 asker_of m = record { from = m.from; request = m.request }
 
+-- another node is marked. Where it is marked alive its first hints are sent
+abbrev pub mark_state : Setting → NodeState → ℕ → Bool → NodeState
+mark_state c s peer true = with_sent c (record s { down = marked s.down peer true }) peer
+mark_state c s peer false = record s { down = marked s.down peer false }
+
+abbrev pub mark_sends : Setting → ℕ → NodeState → ℕ → Bool → List Outbound
+mark_sends c me s peer true = sends_hints c me s peer
+mark_sends c me s peer false = []
+
+-- at its deadline a request is done with, and is told so where it has no answer. A write leaves hints
+abbrev pub ends_write : Setting → ReqId → OpenWrite → NodeState → NodeState
+ends_write c id w s = record (leaves_hints (unheard c w) id w.mutation s) { writes = remove_entry (is_at (request_cmp id)) s.writes }
+
+abbrev pub ends_read : ReqId → NodeState → NodeState
+ends_read id s = record s { reads = remove_entry (is_at (request_cmp id)) s.reads }
+
+abbrev pub EndsRead : Setting → ReqId → Option OpenRead → NodeState → Effects → NodeState → Type 0
+EndsRead c id None s o s' = (o ≡ nothing) × (s' ≡ s)
+EndsRead c id (Some r) s o s' = (o ≡ effects_of (read_timeout id (replies_of c r) (read_needs c r))) × (s' ≡ ends_read id s)
+
+abbrev pub Ends : Setting → ReqId → Option OpenWrite → NodeState → Effects → NodeState → Type 0
+Ends c id None s o s' = EndsRead c id (open_at s.reads id) s o s'
+Ends c id (Some w) s o s' = (o ≡ record { sends = []; entries = write_told c id w }) × (s' ≡ ends_write c id w s)
+
 -- From s node me may make this move, and give these effects
 abbrev pub Does : Setting → ℕ → NodeState → Act → Effects → NodeState → Type 0
 Does c me s (Rises time) o s' = (s.time < time) × (o ≡ nothing) × (s' ≡ record s { time = time; risen = time; ceiling = ceiling_after s.ceiling time })
-Does c me s (Hears m) o s' = MatchBool (is_old c s.risen m.born) ((o ≡ nothing) × (s' ≡ s)) (HearsBody c (asker_of m) m.body s o s')
+Does c me s (Hears m) o s' = MatchBool (is_old c s.risen m.born) ((o ≡ nothing) × (s' ≡ s)) (HearsBody c me (asker_of m) m.body s o s')
 Does c me s (Asks ask) o s' = BeginsOrRefuses c (request_at me s.risen) ask.plan ask.level (refusal_of c s (request_at me s.risen) ask.plan ask.level) s o s'
-Does c me s (Marks peer up) o s' = (o ≡ nothing) × (s' ≡ record s { down = marked s.down peer up })
+Does c me s (Marks peer up) o s' = (o ≡ record { sends = mark_sends c me s peer up; entries = [] }) × (s' ≡ mark_state c s peer up)
+Does c me s (DeadlineComes id) o s' = Ends c id (open_at s.writes id) s o s'
+Does c me s (HintExpires peer number) o s' = (o ≡ nothing) × (s' ≡ with_hints_of (drop_hint peer number (hints_in s)) s)
 
 -- a move that was made, with all that can be known of it
 pub record Deed : Type 0 where

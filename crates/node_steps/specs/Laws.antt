@@ -19,6 +19,7 @@ use Rattle.durable_state.specs.Keeping.{Commits, IsWithOrWithout}
 use Rattle.node_steps.specs.State.{NodeState, durable_of}
 use Rattle.node_steps.specs.Answering.{IsForReplica, IsAnswer, reply_to}
 use Rattle.node_steps.specs.Fitting.{is_node, changes_fit, mutation_fits, message_fits}
+use Rattle.node_steps.specs.Holding.{HoldsFit}
 use Rattle.node_steps.specs.Acts.{Deed}
 use Rattle.node_steps.specs.Steps.{NodeStep}
 use Rattle.node_steps.specs.Keeping.{entry_of}
@@ -31,19 +32,26 @@ ChangesAreTested = (xs : List Held) → IsTrue (changes_fit xs) ↔ ChangesFit x
 abbrev pub MutationsAreTested : Type 0
 MutationsAreTested = (m : Mutation) → IsTrue (mutation_fits m) ↔ MutationFits m
 
--- each item that a step keeps can be written, and they stand in the order of their kinds
+-- the items that a step keeps stand in the order of their kinds, and each can be written, if the mutations of the node's open
+-- writes and hints can
 abbrev pub WhatIsKeptFits : Type 0
 WhatIsKeptFits =
     (c : Setting) (me : ℕ) (s : NodeState) (e : Event) (deeds : List Deed) (o : Outputs) (s' : NodeState) → NodeStep c me s e deeds o s'
-    → AllByRecursion ItemFits (entry_of c s deeds s') × AreByKind (entry_of c s deeds s')
+    → AreByKind (entry_of c s deeds s') × (HoldsFit s → AllByRecursion ItemFits (entry_of c s deeds s'))
 
--- what a node of the ring sends fits where it comes to, if the content of a reply does
+-- and then they still can
+abbrev pub WhatIsHeldFits : Type 0
+WhatIsHeldFits =
+    (c : Setting) (me : ℕ) (s : NodeState) (e : Event) (deeds : List Deed) (o : Outputs) (s' : NodeState) → NodeStep c me s e deeds o s' → HoldsFit s → HoldsFit s'
+
+-- what a node of the ring sends fits where it comes to, if the mutations that it holds can be written, and the content of a reply
+-- can
 abbrev pub WhatIsSentFits : Type 0
 WhatIsSentFits =
-    (c : Setting) (me : ℕ) (s : NodeState) (e : Event) (deeds : List Deed) (o : Outputs) (s' : NodeState) → NodeStep c me s e deeds o s' → IsTrue (is_node c me)
+    (c : Setting) (me : ℕ) (s : NodeState) (e : Event) (deeds : List Deed) (o : Outputs) (s' : NodeState) → NodeStep c me s e deeds o s' → IsTrue (is_node c me) → HoldsFit s
     → (m : Message) → Contains o.sends m → ((content : List Held) → m.body ≡ ReadReply content → IsTrue (changes_fit content)) → IsTrue (message_fits c m.upto m)
 
--- a write or a read that comes to a node, fits and is not refused is answered in that event
+-- a write, a read or a hint that comes to a node, fits and is not refused is answered in that event
 abbrev pub ReplicasAnswerAtOnce : Type 0
 ReplicasAnswerAtOnce =
     (c : Setting) (me : ℕ) (s : NodeState) (e : Event) (deeds : List Deed) (o : Outputs) (s' : NodeState) → NodeStep c me s e deeds o s'

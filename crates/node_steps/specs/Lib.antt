@@ -1,6 +1,8 @@
 pub mod State
 pub mod Effects
 pub mod Fitting
+pub mod Holding
+pub mod Hints
 pub mod Writes
 pub mod Reads
 pub mod Requests

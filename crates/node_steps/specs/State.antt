@@ -1,10 +1,10 @@
--- A node, plainly: what it keeps through stops; and what it forgets at a stop: its time, the nodes that it takes for dead, and
--- the open requests of clients.
+-- A node, plainly: what it keeps through stops; and what it forgets at a stop: its time, the nodes that it takes for dead, which
+-- hints it has sent, and the open requests of clients.
 use Rattle.std.specs.Prelude.{ℕ, Bool, List, []}
 use Rattle.cs_base.specs.declared.level.Level.{Level}
 use Rattle.cs_base.specs.declared.ids.ReqId.{ReqId}
-use Rattle.changes.specs.declared.Partition.{Partition}
 use Rattle.changes.specs.declared.Held.{Held}
+use Rattle.changes.specs.declared.Mutation.{Mutation}
 use Rattle.changes.specs.declared.Query.{Query}
 use Rattle.row_change.specs.declared.entry.Hint.{Hint}
 use Rattle.row_change.specs.declared.entry.Mark.{Mark}
@@ -13,11 +13,13 @@ use Rattle.durable_state.specs.declared.parts.RowAt.{RowAt}
 use Rattle.durable_state.specs.State.{Stored, Durable, formatted}
 
 -- a write that its coordinator began, with the replicas that acknowledged it. It is open on behind its answer, until each
--- replica has acknowledged it or its deadline comes
+-- replica has acknowledged it or got a hint, or its deadline comes
 pub record OpenWrite : Type 0 where
   pub level : Level
-  pub partition : Partition
+  pub mutation : Mutation
   pub heard : List ℕ
+  -- those for which a hint was kept at its start
+  pub hinted : List ℕ
   pub answered : Bool
 
 -- what a replica replied to a read
@@ -31,6 +33,11 @@ pub record OpenRead : Type 0 where
   pub query : Query
   pub replies : List Replied
   pub merged : List Held
+
+-- the numbers of the hints that went to a peer last and that it has not acknowledged
+pub record Batch : Type 0 where
+  pub peer : ℕ
+  pub waiting : List ℕ
 
 -- Open requests stand by id. Of the step that the node is in, risen is the time to which it rose: what a rule says of node time
 -- goes by it. What a node sends carries its time
@@ -46,6 +53,7 @@ pub record NodeState : Type 0 where
   pub time : ℕ
   pub risen : ℕ
   pub down : List ℕ
+  pub batches : List Batch
   pub writes : List (ReqId × OpenWrite)
   pub reads : List (ReqId × OpenRead)
 
@@ -64,6 +72,7 @@ loaded d = record {
   time = d.ceiling;
   risen = d.ceiling;
   down = [];
+  batches = [];
   writes = [];
   reads = [];
 }

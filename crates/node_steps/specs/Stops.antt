@@ -12,8 +12,8 @@ use Rattle.peer_messages.specs.declared.setting.Setting.{Setting}
 use Rattle.durable_state.specs.State.{Durable, IsSameKept}
 use Rattle.durable_state.specs.Keeping.{Commits}
 use Rattle.node_steps.specs.State.{NodeState, durable_of}
-use Rattle.node_steps.specs.Acts.{Act, Rises, Asks, Deed, Chain}
-use Rattle.node_steps.specs.Steps.{NodeStep, time_after, matter_of, looked_at, started_by, entries_of}
+use Rattle.node_steps.specs.Acts.{Act, Asks, Deed, Chain}
+use Rattle.node_steps.specs.Steps.{NodeStep, Due, AreDue, matters_of, time_after, started_by, entries_of}
 
 abbrev pub asked_by : Option ReqId → List Entry
 asked_by None = []
@@ -45,7 +45,9 @@ pub record CutStep (c : Setting) (me : ℕ) (s : NodeState) (e : Event) (deeds :
   pub reached : NodeState
   pub pending : List Act
   pub left : List Act
-  pub moves : Chain c me s (Rises (time_after s e) ∷ matter_of c me (looked_at s.time e)) deeds reached pending left
+  pub due : List Due
+  pub are_due : AreDue c me (time_after s e) s due
+  pub moves : Chain c me s (matters_of c me s e due) deeds reached pending left
   pub taken : (ask : Ask) → Contains left (Asks ask) → ⊥
 
 abbrev pub remains_in : ℕ → NodeState → Event → List Deed → List Entry

@@ -16,3 +16,4 @@ mod ToldLemmas
 mod PartLemmas
 mod LossLemmas
 mod SweepLemmas
+mod RunLemmas

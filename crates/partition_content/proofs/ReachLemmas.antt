@@ -189,7 +189,7 @@ passed_start x es it e d h = inl (subst (λ (l : List (Spot × Option Held)). Co
 pub among_start : (es it : List (Spot × Option Held)) → it ≡ wide_of es → AreAmong it es
 among_start es it e d h = among_wide es d (subst (λ (l : List (Spot × Option Held)). Contains l d) e h)
 
-wide_place : (p : Place) → row_of p ≡ None → is_wide_spot (At p) ≡ true
+pub wide_place : (p : Place) → row_of p ≡ None → is_wide_spot (At p) ≡ true
 wide_place p e = ap (λ (o : Option (List ℕ)). not (is_some o)) e
 
 -- where no key is that of a deletion of a range or of the partition, none is there

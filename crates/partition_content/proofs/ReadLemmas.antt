@@ -1,5 +1,5 @@
 -- Copies of what meets two bounds.
-use Rattle.std.proofs.Common.{Bor, ◌≡◌, ◌≢◌, ℕ, ◌⊎◌, ◌↔◌, inl, inr, Bool, true, false, not, List, [], ◌∷◌, ◌++◌, Option, Some, None, Contains, refl, sym, ◌∙◌, ap, subst, arith, filter, ◌&&◌, cond, ◌==◌, IsTrue, eqb-true, eq-eqb}
+use Rattle.std.proofs.Common.{Bor, ◌≡◌, ◌≢◌, ℕ, ◌⊎◌, ◌↔◌, inl, inr, Bool, true, false, not, List, [], ◌∷◌, ◌++◌, Option, Some, None, Contains, refl, sym, ◌∙◌, ap, subst, append-nil, arith, filter, ◌&&◌, cond, ◌==◌, IsTrue, eqb-true, eq-eqb}
 use Rattle.std.specs.Option.{option_to_list, option_copied}
 use Rattle.std.specs.Prelude.{IfSome, IfNone}
 use Rattle.std.specs.BTreeMap.{get, is_at}
@@ -16,7 +16,7 @@ use Rattle.changes.specs.declared.Place.{Place}
 use Rattle.changes.specs.declared.Place.TheVariants.{Cell, Marker, RowGone, RangeGone, PartGone}
 use Rattle.changes.specs.Contents.{AreApart, IsContent}
 use Rattle.changes.specs.Lengths.{held_length, changes_length}
-use Rattle.changes.specs.Order.{row_of, bound_signs, row_signs, signs_cmp, IsBetween}
+use Rattle.changes.specs.Order.{row_of, bound_signs, end_of, row_signs, signs, signs_cmp, IsBetween, NotAbove}
 use Rattle.changes.specs.Queries.{MeetsBounds, IsSlice}
 use Rattle.changes.specs.Places.{AreInOrder}
 use Rattle.change_laws.proofs.Contents.{IsContent-itself, content_in_order_is_one}
@@ -112,6 +112,13 @@ row_between from upto (RowGone r) row e h = let same : r ≡ row = cc in subst (
 row_between from upto (RangeGone f u) row e h = cc
 row_between from upto PartGone row e h = cc
 
+pub between_meets : (from upto : Bound) (p : Place) (row : List ℕ) → row_of p ≡ Some row → IsBetween from upto row → MeetsBounds from upto p
+between_meets from upto (Cell r c) row e h = let same : r ≡ row = cc in subst (IsBetween from upto) (sym same) h
+between_meets from upto (Marker r) row e h = let same : r ≡ row = cc in subst (IsBetween from upto) (sym same) h
+between_meets from upto (RowGone r) row e h = let same : r ≡ row = cc in subst (IsBetween from upto) (sym same) h
+between_meets from upto (RangeGone f u) row e h = cc
+between_meets from upto PartGone row e h = cc
+
 -- in bounds that aren't forward no entry is
 backward_entry : (from upto : Bound) (s : Spot) → spot_cmp (Edge from) s ≡ Less → spot_cmp (Edge upto) s ≡ Greater → spot_cmp (Edge from) (Edge upto) ≡ Less
 backward_entry from upto s low high = spot_total.trans (Edge from) s (Edge upto) low (spot_total.antisymm s (Edge upto) ∙ ap ordering_reverse high)
@@ -131,12 +138,20 @@ pub passes : (p : Spot × Option Held → Bool) (es : List (Spot × Option Held)
 passes p [] d h = absurd (contains_nil d h)
 passes p (e ∷ es) d h = passed_at p (p e) e d (filter p es) refl (λ k. passes p es d k) h
 
-pub backward_none : (from upto : Bound) (es : List (Spot × Option Held)) (o : Ordering) → o ≡ signs_cmp (bound_signs from) (bound_signs upto) → o ≢ Less → (x : Held) → Contains (changes_of (rows_of from upto es)) x × MeetsBounds from upto x.place → ⊥
-backward_none from upto es o e other x p =
-    let f = from_changes (rows_of from upto es) x p.0 in
+backward_none : (from upto : Bound) (es : List (Spot × Option Held)) (o : Ordering) → o ≡ signs_cmp (bound_signs from) (bound_signs upto) → o ≢ Less → (x : Held) → Contains (changes_of (rows_of from upto es)) x → ⊥
+backward_none from upto es o e other x h =
+    let f = from_changes (rows_of from upto es) x h in
     let t = passes (λ (d : Spot × Option Held). range_contains spot_cmp (Excluded (Edge from)) (Excluded (Edge upto)) d.0) es (f.0, Some x) f.1 in
     let b = both_pass (spot_cmp (Edge from) f.0) (spot_cmp (Edge upto) f.0) t in
     other (e ∙ backward_entry from upto f.0 b.0 b.1)
+
+no_items : (xs : List Held) → ((x : Held) → Contains xs x → ⊥) → xs ≡ []
+no_items [] none = refl
+no_items (x ∷ xs) none = absurd (none x (contains_here x xs))
+
+pub adds_no_rows : (from upto : Bound) (es : List (Spot × Option Held)) (o : Ordering) (old : List Held) → o ≡ signs_cmp (bound_signs from) (bound_signs upto) → o ≢ Less → old ≡ old ++ changes_of (rows_of from upto es)
+adds_no_rows from upto es o old e other =
+    sym (append-nil old) ∙ ap (λ (l : List Held). old ++ l) (sym (no_items (changes_of (rows_of from upto es)) (backward_none from upto es o e other)))
 
 part_of : (from upto : Bound) (es : List (Spot × Option Held)) → AreFiled es → (x : Held) → Contains (changes_of es) x → MeetsBounds from upto x.place → Contains (changes_of (wide_of es)) x ⊎ Contains (changes_of (rows_of from upto es)) x
 part_of from upto es filed x h meets =
@@ -148,7 +163,7 @@ part_of from upto es filed x h meets =
         inr (to_changes (rows_of from upto es) (At x.place) x
         (to_filter (λ (d : Spot × Option Held). range_contains spot_cmp (Excluded (Edge from)) (Excluded (Edge upto)) d.0) es (At x.place, Some x) entry (row_passes from upto x.place row e (row_between from upto x.place row e meets))))
 
-filtered_changes : (p : Spot × Option Held → Bool) (es : List (Spot × Option Held)) (x : Held) → Contains (changes_of (filter p es)) x → Contains (changes_of es) x
+pub filtered_changes : (p : Spot × Option Held → Bool) (es : List (Spot × Option Held)) (x : Held) → Contains (changes_of (filter p es)) x → Contains (changes_of es) x
 filtered_changes p es x h = let f = from_changes (filter p es) x h in to_changes es f.0 x (from_filter p es (f.0, Some x) f.1)
 
 pub slice_copied : (from upto : Bound) (es : List (Spot × Option Held)) (wide part : List Held) → AreFiled es → Adds [] wide (λ x. Contains (changes_of (wide_of es)) x × MeetsBounds from upto x.place) → Adds wide part (λ x. Contains (changes_of (rows_of from upto es)) x × MeetsBounds from upto x.place) → (x : Held) → Contains part x ↔ (Contains (changes_of es) x × MeetsBounds from upto x.place)
@@ -165,6 +180,37 @@ slice_copied from upto es wide part filed first next x = (
     | inr r ↦ (next x).1 (inr (r, h.1))
   ],
 )
+
+-- ---- the bounds before all rows and behind them
+
+below_rows : (row : List ℕ) → signs_cmp (signs [] 0) (row_signs row) ≡ Less
+below_rows [] = refl
+below_rows (b ∷ row) = refl
+
+above_rows : (row : List ℕ) → signs_cmp (row_signs row) (signs [] 3) ≡ Less
+above_rows [] = refl
+above_rows (b ∷ row) = refl
+
+below_ends : (at : List ℕ) (after : Bool) → NotAbove (signs [] 0) (signs at (end_of after))
+below_ends [] false e = cc
+below_ends [] true e = cc
+below_ends (b ∷ at) after e = cc
+
+above_ends : (at : List ℕ) (after : Bool) → NotAbove (signs at (end_of after)) (signs [] 3)
+above_ends [] false e = cc
+above_ends [] true e = cc
+above_ends (b ∷ at) after e = cc
+
+meet_at : (p : Place) → MeetsBounds (record { at = []; after = false }) (record { at = []; after = true }) p
+meet_at (Cell r c) = (below_rows r, above_rows r)
+meet_at (Marker r) = (below_rows r, above_rows r)
+meet_at (RowGone r) = (below_rows r, above_rows r)
+meet_at (RangeGone f u) = (above_ends f.at f.after, below_ends u.at u.after)
+meet_at PartGone = tt
+
+pub outermost_meet : (from upto : Bound) → from ≡ record { at = []; after = false } → upto ≡ record { at = []; after = true } → (p : Place) → MeetsBounds from upto p
+outermost_meet from upto low high p =
+    subst (λ (u : Bound). MeetsBounds from u p) (sym high) (subst (λ (f : Bound). MeetsBounds f (record { at = []; after = true }) p) (sym low) (meet_at p))
 
 -- ---- contents made of copies
 

@@ -6,9 +6,11 @@ use Rattle.std.specs.List.Sorted.{IsStrictlySortedBy}
 use Rattle.std.specs.Map.{keys_of}
 use Rattle.std.specs.Ordering.{is_le, ordering_reverse}
 use Rattle.std.specs.declared.cmp.Ordering.{Ordering}
-use Rattle.std.specs.declared.cmp.Ordering.TheVariants.{Less}
+use Rattle.std.specs.declared.cmp.Ordering.TheVariants.{Less, Greater}
 use Rattle.std.specs.declared.ops.Bound.TheVariants.{Excluded, Unbounded}
+use Rattle.std.proofs.lemmas.Bool.{both_ways}
 use Rattle.std.proofs.lemmas.List.{take-append-drop}
+use Rattle.std.proofs.lemmas.List.Elements.{Contains-append_cases, Contains-append_left, Contains-append_right}
 use Rattle.std.proofs.lemmas.List.Kept.{IsStrictlySortedBy-filter}
 use Rattle.std.proofs.lemmas.Map.Keys.{sorted_tail}
 use Rattle.changes.specs.declared.Bound.{Bound}
@@ -19,17 +21,18 @@ use Rattle.changes.specs.Order.{row_of, row_signs, bound_signs, signs_cmp}
 use Rattle.changes.specs.Places.{AreInOrder, stored_cmp}
 use Rattle.changes.specs.Queries.{MeetsBounds}
 use Rattle.cell_merge.proofs.InOrder.{sorted_front, sorted_back, sorted_across, sorted_both}
-use Rattle.cs_base.proofs.Members.{contains_nil, contains_there}
+use Rattle.cs_base.proofs.Members.{contains_map, contains_nil, contains_there}
 use Rattle.partition_content.specs.declared.spots.Spot.{Spot}
 use Rattle.partition_content.specs.declared.spots.Spot.TheVariants.{At, Edge}
 use Rattle.partition_content.specs.Spots.{spot_cmp}
 use Rattle.partition_content.specs.SpotLaws.{spot_total}
-use Rattle.partition_content.specs.Slots.{changes_of, AreFiled}
+use Rattle.partition_content.specs.Slots.{SlotMap, changes_of, is_wide_spot, spots_in, AreFiled}
 use Rattle.partition_content.specs.Reading.{first_row, wide_of, rows_of, IsAdded}
-use Rattle.partition_content.proofs.SpotLemmas.{edge_above, edge_stands}
-use Rattle.partition_content.proofs.SlotLemmas.{from_changes}
+use Rattle.partition_content.proofs.SpotLemmas.{edge_above, edge_stands, signs_total}
+use Rattle.partition_content.proofs.SlotLemmas.{at_place, from_changes}
 use Rattle.partition_content.proofs.OrderLemmas.{changes_in_order, from_filter}
-use Rattle.partition_content.proofs.ReadLemmas.{Adds, both_pass, passes}
+use Rattle.partition_content.proofs.ReachLemmas.{wide_place}
+use Rattle.partition_content.proofs.ReadLemmas.{Adds, between_meets, both_pass, filtered_changes, passes}
 
 pub front_in_order : (xs : List Held) (n : ℕ) → AreInOrder xs → AreInOrder (take n xs)
 front_in_order xs n h = sorted_front stored_cmp (take n xs) (drop n xs) (subst AreInOrder (sym (take-append-drop n xs)) h)
@@ -100,6 +103,31 @@ passed_place q es x filed h =
     let f = from_changes (filter (λ (d : Spot × Option Held). q d.0) es) x h in
     let t : q f.0 ≡ true = passes (λ (d : Spot × Option Held). q d.0) es (f.0, Some x) f.1 in
     subst (λ (s : Spot). q s ≡ true) (filed f.0 x (from_filter (λ (d : Spot × Option Held). q d.0) es (f.0, Some x) f.1)) t
+
+-- where no key is that of a deletion of a range or of the partition, nothing is before the rows
+pub no_wide_change : (slots : SlotMap) (x : Held) → AreFiled slots.entries → ((s : Spot) → Contains (spots_in slots) s → is_wide_spot s ≡ false) → Contains (changes_of (wide_of slots.entries)) x → ⊥
+no_wide_change slots x filed none h =
+    let wide = not_in_row x.place (passed_place (λ (s : Spot). range_contains spot_cmp Unbounded (Excluded first_row) s) slots.entries x filed h) in
+    let entry = at_place slots.entries filed x (filtered_changes (λ (d : Spot × Option Held). range_contains spot_cmp Unbounded (Excluded first_row) d.0) slots.entries x h) in
+    both_ways (is_wide_spot (At x.place)) (none (At x.place) (contains_map {X = Spot × Option Held} (λ e. e.0) slots.entries (At x.place, Some x) entry)) (wide_place x.place wide)
+
+-- what is between the bounds meets them
+rows_meet : (from upto : Bound) (es : List (Spot × Option Held)) (x : Held) → AreFiled es → Contains (changes_of (rows_of from upto es)) x → MeetsBounds from upto x.place
+rows_meet from upto es x filed h =
+    let between = passed_place (λ (s : Spot). range_contains spot_cmp (Excluded (Edge from)) (Excluded (Edge upto)) s) es x filed h in
+    let both = both_pass (spot_cmp (Edge from) (At x.place)) (spot_cmp (Edge upto) (At x.place)) between in by (row_of x.place) refl both.0 both.1
+  where
+    by : (o : Option (List ℕ)) → row_of x.place ≡ o → spot_cmp (Edge from) (At x.place) ≡ Less → spot_cmp (Edge upto) (At x.place) ≡ Greater → MeetsBounds from upto x.place
+    by None e low high = let above : Greater ≡ Less = sym (edge_above from x.place e) ∙ low in cc
+    by (Some row) e low high =
+        between_meets from upto x.place row e
+        (sym (edge_stands from x.place row e) ∙ low, signs_total.antisymm (row_signs row) (bound_signs upto) ∙ ap ordering_reverse (sym (edge_stands upto x.place row e) ∙ high))
+
+pub rows_added : (from upto : Bound) (es : List (Spot × Option Held)) (old new : List Held) → AreFiled es → new ≡ old ++ changes_of (rows_of from upto es) → Adds old new (λ x. Contains (changes_of (rows_of from upto es)) x × MeetsBounds from upto x.place)
+rows_added from upto es old new filed e x = (
+  λ h. elim (Contains-append_cases old (changes_of (rows_of from upto es)) x (subst (λ (l : List Held). Contains l x) e h)) [ inl k ↦ inl k | inr r ↦ inr (r, rows_meet from upto es x filed r) ],
+  λ u. subst (λ (l : List Held). Contains l x) (sym e) (elim u [ inl k ↦ Contains-append_left old (changes_of (rows_of from upto es)) x k | inr p ↦ Contains-append_right old (changes_of (rows_of from upto es)) x p.0 ]),
+)
 
 -- what is before the rows stands before what is behind a bound
 wide_first : (from upto : Bound) (es : List (Spot × Option Held)) (x y : Held) → AreFiled es → Contains (changes_of (wide_of es)) x → Contains (changes_of (rows_of from upto es)) y → stored_cmp x y ≡ Less

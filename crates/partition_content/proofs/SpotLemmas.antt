@@ -1,10 +1,12 @@
 -- Keys compare alike only where they are one, and a bound stands to a place as it does to its row.
-use Rattle.std.proofs.Common.{◌≡◌, ◌≢◌, ℕ, Bool, true, false, List, [], ◌∷◌, ◌++◌, Option, Some, None, refl, sym, ◌∙◌, ap, subst}
-use Rattle.std.specs.Ordering.{nat_cmp, ordering_then, ordering_reverse, is_eq}
+use Rattle.std.proofs.Common.{◌≡◌, ◌≢◌, ℕ, zero, suc, ◌+◌, ◌<◌, min, Bool, true, false, List, [], ◌∷◌, ◌++◌, length, drop, get_or, Option, Some, None, refl, sym, ◌∙◌, ap, subst, arith}
+use Rattle.std.specs.Ordering.{MatchOrdering, nat_cmp, ordering_then, ordering_reverse, is_eq}
 use Rattle.std.specs.declared.cmp.Ordering.{Ordering}
 use Rattle.std.specs.declared.cmp.Ordering.TheVariants.{Less, Equal, Greater}
 use Rattle.std.specs.Cmp.{IsTotalOrder}
-use Rattle.std.proofs.lemmas.Cmp.{lists_total, tied_back, tied_itself}
+use Rattle.std.specs.Cmp.Lexicographic.{slice_cmp}
+use Rattle.std.proofs.lemmas.Map.Lookups.{exact_unsigned}
+use Rattle.std.proofs.lemmas.Cmp.{lists_total, nat_cmp_total, ranked, tied_back, tied_itself}
 use Rattle.changes.specs.declared.Bound.{Bound}
 use Rattle.changes.specs.declared.Place.{Place}
 use Rattle.changes.specs.declared.Place.TheVariants.{Cell, Marker, RowGone, RangeGone, PartGone}
@@ -112,3 +114,62 @@ spot_itself s = ap is_eq (tied_itself spot_total s)
 
 pub place_kept : (p q : Place) → At p ≡ At q → p ≡ q
 place_kept p q e = cc
+
+-- ---- bytes compared one by one
+
+-- what is left of both from here on compares as the whole does
+abbrev pub Rest : List ℕ → List ℕ → ℕ → Type 0
+Rest xs ys i = slice_cmp nat_cmp (drop i xs) (drop i ys) ≡ slice_cmp nat_cmp xs ys
+
+cut : (xs : List ℕ) (i : ℕ) → i < length xs → drop i xs ≡ get_or xs i 0 ∷ drop (suc i) xs
+cut [] i h = absurd (omega arith)
+cut (x ∷ xs) zero h = refl
+cut (x ∷ xs) (suc i) h = cut xs i (omega arith)
+
+cut_both : (xs ys : List ℕ) (i : ℕ) → i < length xs → i < length ys → slice_cmp nat_cmp (drop i xs) (drop i ys) ≡ ordering_then (nat_cmp (get_or xs i 0) (get_or ys i 0)) (slice_cmp nat_cmp (drop (suc i) xs) (drop (suc i) ys))
+cut_both xs ys i h k = ap (λ (l : List ℕ). slice_cmp nat_cmp l (drop i ys)) (cut xs i h) ∙ ap (λ (l : List ℕ). slice_cmp nat_cmp (get_or xs i 0 ∷ drop (suc i) xs) l) (cut ys i k)
+
+pub rest_more : (xs ys : List ℕ) (i : ℕ) → i < length xs → i < length ys → get_or xs i 0 ≡ get_or ys i 0 → Rest xs ys i → Rest xs ys (i + 1)
+rest_more xs ys i h k same rest =
+    let tied : nat_cmp (get_or xs i 0) (get_or ys i 0) ≡ Equal = ap (λ (b : ℕ). nat_cmp (get_or xs i 0) b) (sym same) ∙ tied_itself nat_cmp_total (get_or xs i 0) in
+    let next : suc i ≡ i + 1 = omega arith in
+    subst (Rest xs ys) next (sym (cut_both xs ys i h k ∙ ap (λ (o : Ordering). ordering_then o (slice_cmp nat_cmp (drop (suc i) xs) (drop (suc i) ys))) tied) ∙ rest)
+
+then_apart : (o more : Ordering) → o ≢ Equal → ordering_then o more ≡ o
+then_apart Less more h = refl
+then_apart Equal more h = absurd (h refl)
+then_apart Greater more h = refl
+
+pub rest_apart : (xs ys : List ℕ) (i : ℕ) (o : Ordering) → i < length xs → i < length ys → get_or xs i 0 ≢ get_or ys i 0 → o ≡ nat_cmp (get_or xs i 0) (get_or ys i 0) → Rest xs ys i → o ≡ slice_cmp nat_cmp xs ys
+rest_apart xs ys i o h k apart is rest =
+    is ∙ sym (then_apart (nat_cmp (get_or xs i 0) (get_or ys i 0)) (slice_cmp nat_cmp (drop (suc i) xs) (drop (suc i) ys)) (λ t. apart (exact_unsigned (get_or xs i 0) (get_or ys i 0) t)))
+    ∙ sym (cut_both xs ys i h k) ∙ rest
+
+-- how lengths rank
+abbrev Ranks : Ordering → ℕ → ℕ → Type 0
+Ranks o a b = MatchOrdering o (a < b) (a ≡ b) (b < a)
+
+both_less : (o : Ordering) (a b : ℕ) → Ranks o (suc a) (suc b) → Ranks o a b
+both_less Less a b h = let l : suc a < suc b = h in omega arith
+both_less Equal a b h = let l : suc a ≡ suc b = h in omega arith
+both_less Greater a b h = let l : suc b < suc a = h in omega arith
+
+ended : (xs ys : List ℕ) (i : ℕ) (o : Ordering) → i ≡ min (length xs) (length ys) → Ranks o (length xs) (length ys) → o ≡ slice_cmp nat_cmp (drop i xs) (drop i ys)
+ended [] [] zero Less e h = let l : 0 < 0 = h in absurd (omega arith)
+ended [] [] zero Equal e h = refl
+ended [] [] zero Greater e h = let l : 0 < 0 = h in absurd (omega arith)
+ended [] (y ∷ ys) zero Less e h = refl
+ended [] (y ∷ ys) zero Equal e h = let l : 0 ≡ suc (length ys) = h in absurd (omega arith)
+ended [] (y ∷ ys) zero Greater e h = let l : suc (length ys) < 0 = h in absurd (omega arith)
+ended (x ∷ xs) [] zero Less e h = let l : suc (length xs) < 0 = h in absurd (omega arith)
+ended (x ∷ xs) [] zero Equal e h = let l : suc (length xs) ≡ 0 = h in absurd (omega arith)
+ended (x ∷ xs) [] zero Greater e h = refl
+ended (x ∷ xs) (y ∷ ys) zero o e h = let m : 0 ≡ min (suc (length xs)) (suc (length ys)) = e in absurd (omega arith)
+ended [] ys (suc i) o e h = let m : suc i ≡ min 0 (length ys) = e in absurd (omega arith)
+ended (x ∷ xs) [] (suc i) o e h = let m : suc i ≡ min (suc (length xs)) 0 = e in absurd (omega arith)
+ended (x ∷ xs) (y ∷ ys) (suc i) o e h =
+    let m : suc i ≡ min (suc (length xs)) (suc (length ys)) = e in
+    let n : i ≡ min (length xs) (length ys) = omega arith in ended xs ys i o n (both_less o (length xs) (length ys) h)
+
+pub rest_end : (xs ys : List ℕ) (i : ℕ) (o : Ordering) → i ≡ min (length xs) (length ys) → o ≡ nat_cmp (length xs) (length ys) → Rest xs ys i → o ≡ slice_cmp nat_cmp xs ys
+rest_end xs ys i o e is rest = ended xs ys i o e (ranked (length xs) (length ys) o is) ∙ rest

@@ -7,3 +7,4 @@ pub mod Inside
 pub mod Partition
 pub mod Reading
 pub mod Lengths
+pub mod Runs

@@ -1,15 +1,17 @@
 //! What a node keeps of a partition.
 
-ghost use Rattle.std.specs.Prelude.{◌≡◌, ◌↔◌, ◌≤◌, [], None, length, Contains, IsTrue, IfOk, OnOk, OnErr, IfSome, IfNone};
+ghost use Rattle.std.specs.Prelude.{◌≡◌, ◌↔◌, ◌≤◌, [], None, length, map, Contains, IsTrue, IfOk, OnOk, OnErr, IfSome, IfNone};
 ghost use Rattle.cell_merge.specs.Settled.{IsSettled};
 ghost use Rattle.changes.specs.Contents.{IsMergeOf};
 ghost use Rattle.changes.specs.Lengths.{changes_length};
+ghost use Rattle.changes.specs.Places.{AreInOrder};
 ghost use Rattle.changes.specs.Queries.{IsSlice};
 
 use crate::Arrived;
 use crate::lengths::length_with;
 use crate::memory::{Ready, give_back, give_back_unused, stays_bare, take_memory};
 use crate::reading::{copy_all, copy_slice, copy_stored};
+use crate::runs::{length_of, plant};
 use crate::slots::{Slots, stored_at};
 use crate::spots::Spot;
 use crate::taking::put_all;
@@ -45,8 +47,8 @@ impl Model for PartitionContent {
 
 impl PartitionContent {
     ghost use Rattle.partition_content.specs.Lengths.{IsMergedLength};
-    ghost use Rattle.partition_content.specs.Arrivals.{ComeAt, IsVacant};
-    ghost use Rattle.partition_content.specs.Partition.{changes_in, IsReadyFor};
+    ghost use Rattle.partition_content.specs.Arrivals.{held_of, ComeAt, IsVacant};
+    ghost use Rattle.partition_content.specs.Partition.{changes_in, AreBare, IsReadyFor};
 
     /// No changes, without an allocation. Further memory comes from this allocator.
     pub fn new(alloc: Global) -> PartitionContent
@@ -60,6 +62,26 @@ impl PartitionContent {
             bare: true,
             alloc,
         }
+    }
+
+    /// What is kept of these changes, cells and markers in the order of their places. It is an error too where their length
+    /// would not be below 2^64.
+    pub(crate) fn of_run(alloc: Global, run: Vec<Arrived>) -> Result<PartitionContent, AllocError>
+        requires ordered { AreInOrder (map held_of run.items) }
+        requires bare { AreBare (map held_of run.items) }
+        ensures { IfOk result (λ content. content.stored ≡ run.items) }
+    {
+        let Some(length) = length_of(&run) else {
+            return Err(AllocError);
+        };
+        let slots = plant(alloc, run)?;
+        Ok(PartitionContent {
+            slots,
+            ready: None,
+            length,
+            bare: true,
+            alloc,
+        })
     }
 
     /// Gives back the memory that was taken for changes that did not come.

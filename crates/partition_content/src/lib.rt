@@ -8,9 +8,11 @@ mod content;
 mod inside;
 mod keys;
 mod lengths;
+mod loaded;
 mod losing;
 mod memory;
 mod reading;
+mod runs;
 mod slots;
 mod spots;
 mod taking;
@@ -18,6 +20,7 @@ mod taking;
 use changes::Held;
 pub use content::PartitionContent;
 use cs_base::Micros;
+pub use loaded::LoadedContent;
 use std::alloc::{AllocError, Global};
 
 /// A change that is stored, and when it came.

@@ -12,7 +12,7 @@ ghost use Rattle.std.specs.Option.{option_to_list};
 ghost use Rattle.std.specs.List.{sum_by};
 ghost use Rattle.changes.specs.Lengths.{held_length};
 ghost use Rattle.partition_content.specs.Spots.{spot_cmp};
-ghost use Rattle.partition_content.specs.Slots.{stored_of, stored_in, held_in, helds_in, helds_of, spots_in, slot_at, changes_of, change_in, AreFiled, IsPutIn, ComesIn, IsPutAt};
+ghost use Rattle.partition_content.specs.Slots.{stored_of, stored_in, held_in, helds_in, helds_of, spots_in, slot_at, changes_of, change_in, AreFiled, IsPutIn, ComesIn, IsPutAt, is_wide_spot};
 
 use crate::Arrived;
 use crate::spots::Spot;
@@ -146,4 +146,25 @@ pub(crate) fn whole(slots: &Slots) -> Range<'_, Spot, Option<Arrived>>
     ensures { result ≡ slots.now.entries }
 {
     slots.range(..)
+}
+
+/// Whether the place is in no single row.
+fn is_wide(at: &Spot) -> bool
+    ensures { result ≡ is_wide_spot at.now }
+{
+    match at {
+        Spot::At(place) => place.row().is_none(),
+        Spot::Edge(_) => false,
+    }
+}
+
+/// Whether the first key is that of a deletion of a range or of the partition. Where it is not, there is none.
+pub(crate) fn begins_wide(slots: &Slots) -> bool
+    requires { IsStrictlySortedBy spot_cmp (keys slots.now) }
+    ensures { result ≡ false → (spot : _) → Contains (keys slots.now) spot → is_wide_spot spot ≡ false }
+{
+    match slots.first_key_value() {
+        Some((first, _)) => is_wide(first),
+        None => false,
+    }
 }

@@ -1,10 +1,14 @@
 //! The keys of the tree: places as they are stored, and the bounds of rows between them.
 
 ghost use Rattle.std.specs.Prelude.{◌≡◌, ◌∷◌, ℕ, IfOk};
+ghost use Rattle.std.specs.Cmp.Lexicographic.{slice_cmp};
+ghost use Rattle.std.specs.Ordering.{nat_cmp};
+ghost use Rattle.changes.specs.declared.Place.TheVariants.{Cell};
 ghost use Rattle.changes.specs.Order.{bound_signs, signs_cmp};
-ghost use Rattle.changes.specs.Places.{place_signs};
+ghost use Rattle.changes.specs.Places.{place_cmp, place_signs};
 
 use changes::{Bound, Place};
+use cs_base::Bytes;
 use std::alloc::{AllocError, Global};
 use std::cmp::Ordering;
 
@@ -44,6 +48,55 @@ fn standing(bound: &Bound, place: &Place) -> Ordering
     }
 }
 
+/// The longest row that is compared byte by byte. The slices' own comparison goes by groups of bytes, which costs more on a row
+/// of few.
+const SHORT: usize = 16;
+
+/// The order of rows by their bytes, one by one.
+fn short_order(row: &[u8], beside: &[u8]) -> Ordering
+    ensures { result ≡ slice_cmp nat_cmp row.now beside.now }
+{
+    for at in 0..row.len().min(beside.len()) {
+        if row[at] != beside[at] {
+            return row[at].cmp(&beside[at]);
+        }
+    }
+    row.len().cmp(&beside.len())
+}
+
+/// The order of rows by their bytes.
+fn row_order(row: &[u8], beside: &[u8]) -> Ordering
+    ensures { result ≡ slice_cmp nat_cmp row.now beside.now }
+{
+    if row.len() > SHORT {
+        return row.cmp(beside);
+    }
+    short_order(row, beside)
+}
+
+/// The order of cells by their rows, and in a row by their columns.
+fn cell_order(row: &Bytes, column: u8, beside: &Bytes, facing: u8) -> Ordering
+    ensures { result ≡ place_cmp (Cell row.now column) (Cell beside.now facing) }
+{
+    match row_order(row.as_slice(), beside.as_slice()) {
+        Ordering::Equal => column.cmp(&facing),
+        Ordering::Less => Ordering::Less,
+        Ordering::Greater => Ordering::Greater,
+    }
+}
+
+/// The order of places. Most that are compared are cells.
+fn place_order(place: &Place, beside: &Place) -> Ordering
+    ensures { result ≡ place_cmp place.now beside.now }
+{
+    match (place, beside) {
+        (Place::Cell(row, column), Place::Cell(other, facing)) => {
+            cell_order(row, *column, other, *facing)
+        }
+        _ => place.cmp(beside),
+    }
+}
+
 /// As the places are stored, with a bound before the rows that are behind it.
 impl Ord for Spot {
     ghost use Rattle.std.specs.Prelude.{refl};
@@ -60,7 +113,7 @@ impl Ord for Spot {
 
     fn cmp(&self, other: &Spot) -> Ordering {
         match (self, other) {
-            (Spot::At(place), Spot::At(beside)) => place.cmp(beside),
+            (Spot::At(place), Spot::At(beside)) => place_order(place, beside),
             (Spot::Edge(bound), Spot::Edge(edge)) => bound.cmp(edge),
             (Spot::Edge(bound), Spot::At(place)) => standing(bound, place),
             (Spot::At(place), Spot::Edge(bound)) => standing(bound, place).reverse(),

@@ -2,18 +2,15 @@
 //! exactly where nothing that is there is it or outranks it.
 
 ghost use Rattle.std.specs.Prelude.{◌≡◌, ◌≢◌, ◌⊎◌, ◌↔◌, ◌+◌, ◌<◌, ◌≤◌, ◌^◌, ℕ, List, [], true, false, Some, None, IsTrue, IsSome, IfSome, Contains, map, slice_get};
-ghost use Rattle.std.specs.BTreeMap.{keys as keys_in};
 ghost use Rattle.std.specs.List.{sum_by};
-ghost use Rattle.std.specs.List.Sorted.{IsStrictlySortedBy};
 ghost use Rattle.changes.specs.declared.Held.{Held as held_value};
 ghost use Rattle.cell_merge.specs.Parts.{IsInnermost};
 ghost use Rattle.changes.specs.Contents.{Either, IsContent, IsReachedBy};
 ghost use Rattle.changes.specs.Lengths.{held_length, changes_length};
 ghost use Rattle.changes.specs.Order.{Outranks};
-ghost use Rattle.partition_content.specs.Spots.{spot_cmp};
 ghost use Rattle.partition_content.specs.declared.spots.Spot.TheVariants.{At};
 ghost use Rattle.partition_content.specs.Arrivals.{ComeAt};
-ghost use Rattle.partition_content.specs.Slots.{AreCleared, AreLeft, ComesAlone, IsLengthOf, IsNewlyOutranked, is_wide_spot, stored_of, held_in, helds_in, helds_of, spots_in, slot_at, changes_of, change_in, AreFiled, HasSlot, IsReachedAt, IsOutrankedAt, IsOutrankedFrom, IsOutrankedUnder, IsGood};
+ghost use Rattle.partition_content.specs.Slots.{AreCleared, AreLeft, ComesAlone, IsLengthOf, IsNewlyOutranked, stored_of, held_in, helds_in, helds_of, spots_in, slot_at, changes_of, change_in, AreFiled, HasSlot, IsReachedAt, IsOutrankedAt, IsOutrankedFrom, IsOutrankedUnder, IsGood};
 ghost use Rattle.partition_content.specs.Inside.{IsInside, AreNoted};
 ghost use Rattle.partition_content.specs.Keys.{AreKeysOf, keys_for};
 ghost use Rattle.partition_content.specs.Partition.{place_of, AreSlotsFor, AreBare, IsTakenIn};
@@ -23,7 +20,7 @@ use crate::clearing::clear_inside;
 use crate::keys::{Keys, Span};
 use crate::losing::lost_by;
 use crate::reading::first_row;
-use crate::slots::{Slots, change_at, put_at, put_own};
+use crate::slots::{Slots, begins_wide, change_at, put_at, put_own};
 use crate::spots::Spot;
 use cell_merge::Rivals;
 use changes::Held;
@@ -57,27 +54,6 @@ fn is_outranked_in(slot: &Option<Arrived>, x: &Held) -> bool
 {
     match slot {
         Some(there) => there.held.outranks(x),
-        None => false,
-    }
-}
-
-/// Whether the place is in no single row.
-fn is_wide(at: &Spot) -> bool
-    ensures { result ≡ is_wide_spot at.now }
-{
-    match at {
-        Spot::At(place) => place.row().is_none(),
-        Spot::Edge(_) => false,
-    }
-}
-
-/// Whether the first key is that of a deletion of a range or of the partition. Where it is not, there is none.
-fn begins_wide(slots: &Slots) -> bool
-    requires { IsStrictlySortedBy spot_cmp (keys_in slots.now) }
-    ensures { result ≡ false → (spot : _) → Contains (keys_in slots.now) spot → is_wide_spot spot ≡ false }
-{
-    match slots.first_key_value() {
-        Some((first, _)) => is_wide(first),
         None => false,
     }
 }

@@ -9,3 +9,5 @@ mod running;
 mod scripts;
 #[cfg(test)]
 mod stopping;
+#[cfg(test)]
+mod waiting;

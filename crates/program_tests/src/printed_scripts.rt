@@ -15,7 +15,7 @@ cassandra-script 1/ring 0/rf 1/@//schema   CREATE TABLE ks.t (k int PRIMARY KEY)
 cassandra-script 1/ring 0 9/rf 1/run/put 1  ONE żółć #a  -0012 x=1/put 01 QUORUM run k 18 9/get 001  LOCAL_SERIAL key|cassandra-script 1/ring 0 9/rf 1/run/put 1 ONE żółć #a -12 x=1/put 1 QUORUM run k 18 9/get 1 LOCAL_SERIAL key/
 cassandra-script 1/ring 0 9/rf 1/run/get 1 TWO k/get 1 THREE k/get 1 ALL k/get 1 LOCAL_QUORUM k/get 1 SERIAL k/get 1 LOCAL_ONE k|cassandra-script 1/ring 0 9/rf 1/run/get 1 TWO k/get 1 THREE k/get 1 ALL k/get 1 LOCAL_QUORUM k/get 1 SERIAL k/get 1 LOCAL_ONE k/
 cassandra-script 1/ring 0 9/rf 1/run/deliver 0 1 18446744073709551615/#/drop  1 00 007/settle 0100|cassandra-script 1/ring 0 9/rf 1/run/deliver 0 1 18446744073709551615/drop 1 0 7/settle 100/
-cassandra-script 1/ring 0 9/rf 1/run/clock 01  5000001/crash 0 kept/crash 1 lost/stopat 1 04 torn/failat 0 2/restart 001/flush 0/merge 1|cassandra-script 1/ring 0 9/rf 1/run/clock 1 5000001/crash 0 kept/crash 1 lost/stopat 1 4 torn/failat 0 2/restart 1/flush 0/merge 1/";
+cassandra-script 1/ring 0 9/rf 1/run/clock 01  5000001/mark 1  00 up/mark 0 01 down/crash 0 kept/crash 1 lost/stopat 1 04 torn/failat 0 2/restart 001/flush 0/merge 1|cassandra-script 1/ring 0 9/rf 1/run/clock 1 5000001/mark 1 0 up/mark 0 1 down/crash 0 kept/crash 1 lost/stopat 1 4 torn/failat 0 2/restart 1/flush 0/merge 1/";
 
 const KEYSPACE: &str =
     "schema CREATE KEYSPACE ks WITH REPLICATION = {'class': 'SimpleStrategy', 'replication_factor': 1}";

@@ -7,9 +7,9 @@ use std::test::Fail;
 
 /// What a run ended with, and what it wrote.
 #[derive(Drop)]
-struct Ended {
-    status: Status,
-    text: Vec<u8>,
+pub(crate) struct Ended {
+    pub status: Status,
+    pub text: Vec<u8>,
 }
 
 /// Source and sink take `most` bytes in a call, and these calls of theirs fail.
@@ -123,7 +123,7 @@ fn answers_scripts_of_three_nodes(rt: HostRuntime) -> Result<(), Fail> {
 }
 
 /// What these lines print behind the head of three nodes.
-fn of_three_nodes(alloc: Global, lines: &str) -> Result<Ended, AllocError> {
+pub(crate) fn of_three_nodes(alloc: Global, lines: &str) -> Result<Ended, AllocError> {
     let mut script = String::from_str(alloc, HEAD_OF_THREE)?;
     script.push_str(lines)?;
     run(alloc, "script", script.as_str(), &SOUND)

@@ -66,6 +66,17 @@ clock 0 -1|Line(5)
 clock 0 1 1|Line(5)
 clock 3 1|Number(5)
 clock 0 18446744073709551616|Number(5)
+mark 0 1 up|mark 0 1 true
+mark 02  1 down|mark 2 1 false
+mark 0 0 up|Number(5)
+mark 0 3 down|Number(5)
+mark 3 0 up|Number(5)
+mark 9 9 gone|Line(5)
+mark 3 x up|Line(5)
+mark x 3 down|Line(5)
+mark 0 1 Up|Line(5)
+mark 0 1|Line(5)
+mark 0 1 up up|Line(5)
 crash 0 kept|crash 0 Kept
 crash 01 lost|crash 1 Lost
 crash 2 torn|crash 2 Torn
@@ -266,6 +277,11 @@ fn write_node_event(shown: &mut String, event: &ScriptEvent) -> Result<(), Fail>
     match event {
         ScriptEvent::Clock(node, micros) => {
             write_node(shown, "clock", *node, Some(micros.count()))
+        }
+        ScriptEvent::Mark(node, peer, up) => {
+            write_node(shown, "mark", *node, Some(u64::from(peer.number())))?;
+            write!(shown, " {up}")?;
+            Ok(())
         }
         ScriptEvent::Crash(node, outcome) => {
             write_node(shown, "crash", *node, None)?;

@@ -1,10 +1,7 @@
 -- Each move keeps what is known.
 use Rattle.std.proofs.Common.{◌≡◌, ℕ, ◌⊎◌, inl, inr, Bool, true, false, Option, Some, None, List, [], ◌∷◌, ◌++◌, refl, sym, ap, subst, ◌∙◌, Contains, reverse}
 use Rattle.std.specs.Prelude.{slice_get, slice_set, if◌then◌else◌}
-use Rattle.std.specs.Ordering.{nat_cmp}
-use Rattle.std.specs.declared.cmp.Ordering.TheVariants.{Equal}
 use Rattle.std.specs.BTreeMap.{insert_entry}
-use Rattle.std.proofs.lemmas.Map.Lookups.{exact_unsigned}
 use Rattle.cs_base.specs.declared.ids.ReqId.{ReqId}
 use Rattle.cs_base.specs.declared.level.Level.{Level}
 use Rattle.cs_base.specs.Requests.{request_cmp}
@@ -14,11 +11,9 @@ use Rattle.changes.specs.declared.Mutation.{Mutation}
 use Rattle.changes.specs.declared.DraftMutation.{DraftMutation}
 use Rattle.changes.specs.declared.Query.{Query}
 use Rattle.statement_plan.specs.declared.plan.Columns.{Columns}
+use Rattle.row_change.specs.declared.entry.Hint.{Hint}
 use Rattle.changes.specs.Drafts.{mutation_of}
-use Rattle.changes.proofs.Orderings.{then_equal}
 use Rattle.changes.proofs.Ranks.{request_made}
-use Rattle.cs_base.proofs.Entries.{from_insert_entry}
-use Rattle.cs_base.proofs.Slots.{some_one}
 use Rattle.cs_base.proofs.Members.{contains_nil, contains_cases, contains_here, contains_from_map}
 use Rattle.peer_messages.specs.declared.event.Ask.{Ask}
 use Rattle.peer_messages.specs.declared.event.Plan.{Plan}
@@ -29,18 +24,21 @@ use Rattle.peer_messages.specs.declared.chronicle.Entry.TheVariants.{Submitted, 
 use Rattle.peer_messages.specs.declared.chronicle.Refusal.{Refusal}
 use Rattle.peer_messages.specs.declared.outcome.Outbound.{Outbound}
 use Rattle.peer_messages.specs.declared.setting.Setting.{Setting}
-use Rattle.peer_messages.specs.Settings.{marked, alive_at}
+use Rattle.peer_messages.specs.Settings.{alive_at}
 use Rattle.durable_state.specs.State.{changes_of, Holds}
 use Rattle.node_steps.specs.State.{NodeState, OpenWrite, OpenRead}
 use Rattle.node_steps.specs.Effects.{Effects, nothing, effects_of, outbound, send_to}
 use Rattle.node_steps.specs.Writes.{start_write, started_write}
 use Rattle.node_steps.specs.Reads.{start_read, started_read}
-use Rattle.node_steps.specs.Requests.{Begins, BeginsOrRefuses}
-use Rattle.node_steps.specs.Acts.{Act, Rises, Asks, Marks, Does, ceiling_after}
+use Rattle.node_steps.specs.Hints.{hints_in, push_hints}
+use Rattle.node_steps.specs.Requests.{hinted_at, leaves_hints, Begins, BeginsOrRefuses}
+use Rattle.node_steps.specs.Acts.{Act, Rises, Asks, Does, ceiling_after}
+use Rattle.node_steps.proofs.HintMembers.{pushed_from}
+use Rattle.node_steps.proofs.Opened.{in_inserted}
 use Rattle.cluster_runs.specs.Chronicle.{submission_of}
 use Rattle.cluster_runs.specs.Trace.{Scene, MayTake, AreTold, entered, loser}
 use Rattle.cluster_runs.proofs.Submissions.{itself}
-use Rattle.read_consistency.proofs.Facts.{WasBegun, Reaches, IsOf, BodyOk, WriteOk, ReadOk, NodeOk, EntryOk, Explains}
+use Rattle.read_consistency.proofs.Facts.{WasBegun, Reaches, IsOf, BodyOk, WriteOk, HintOk, ReadOk, NodeOk, EntryOk, Explains}
 use Rattle.read_consistency.specs.ReadRight.{HasStart, IsRightEntry}
 use Rattle.read_consistency.proofs.Grows.{Grows, IsNew, node_on}
 use Rattle.read_consistency.proofs.Step.{deed_of, quietly, telling, quietly_grows, telling_grows, explains_quietly, explains_telling}
@@ -59,29 +57,36 @@ pub quiet_next : (c : Setting) (w : Scene) (k : ℕ) (lost : Bool) (a : Act) (s 
 quiet_next c w k true a s s' sends e = e
 quiet_next c w k false a s s' sends e = e
 
-pub request_exact : (a b : ReqId) → request_cmp a b ≡ Equal → a ≡ b
-request_exact a b e = let both = then_equal (nat_cmp a.node b.node) _ e in request_made (exact_unsigned a.node b.node both.0) (exact_unsigned a.time b.time both.1)
-
 pub none_sent : (w : Scene) (k : ℕ) (x : Outbound) → Contains [] x → BodyOk w k x
 none_sent w k x h = absurd (contains_nil x h)
 
 -- the node has what it had, under other names
-same_node : (w : Scene) (k : ℕ) (s r : NodeState) → r.content ≡ s.content → r.writes ≡ s.writes → r.reads ≡ s.reads → NodeOk w k s → NodeOk w k r
-same_node w k s r content writes reads ok = record {
+same_node : (w : Scene) (k : ℕ) (s r : NodeState) → r.content ≡ s.content → r.writes ≡ s.writes → r.reads ≡ s.reads → r.hints ≡ s.hints → NodeOk w k s → NodeOk w k r
+same_node w k s r content writes reads hints ok = record {
   of = λ p x h.
       subst (λ cs. IsOf w.chronicle p (Reaches (changes_of cs) p) x) (sym content) (ok.of p x (subst (λ cs. Holds (changes_of cs) p x) content h));
   writes = λ id o h. ok.writes id o (subst (λ (xs : List (ReqId × OpenWrite)). Contains xs (id, o)) writes h);
   reads = λ id o h. ok.reads id o (subst (λ (xs : List (ReqId × OpenRead)). Contains xs (id, o)) reads h);
+  hints = λ x h. ok.hints x (subst (λ (xs : List Hint). Contains xs x) hints h);
 }
 
 -- a move by which a node keeps all and tells nothing
-pub same_case : (c : Setting) (w : Scene) (k : ℕ) (lost : Bool) (a : Act) (s r : NodeState) → Explains c w → slice_get w.nodes k ≡ Some s → r.content ≡ s.content → r.writes ≡ s.writes → r.reads ≡ s.reads
+pub same_case : (c : Setting) (w : Scene) (k : ℕ) (lost : Bool) (a : Act) (s r : NodeState) → Explains c w → slice_get w.nodes k ≡ Some s → r.content ≡ s.content → r.writes ≡ s.writes → r.reads ≡ s.reads → r.hints ≡ s.hints
     → Explains c (next w k lost a s nothing r)
-same_case c w k lost a s r e at content writes reads =
+same_case c w k lost a s r e at content writes reads hints =
     let more : (p : Partition) (x : Held) → Reaches (changes_of s.content) p x → Reaches (changes_of r.content) p x = λ p x h. subst (λ cs. Reaches (changes_of cs) p x) (sym content) h in
     let w' = quietly w k a s r nothing in
     let g = quietly_grows w k a s r nothing at more in
-    quiet_next c w k lost a s r [] (explains_quietly c w k a s r nothing e at more (same_node w' k s r content writes reads (node_on c w w' g e k (λ l. l) s (e.nodes k s at))) (none_sent w' k))
+    quiet_next c w k lost a s r [] (explains_quietly c w k a s r nothing e at more (same_node w' k s r content writes reads hints (node_on c w w' g e k (λ l. l) s (e.nodes k s at))) (none_sent w' k))
+
+-- a move by which bodies go out, and nothing is told
+pub sends_case : (c : Setting) (w : Scene) (k : ℕ) (lost : Bool) (a : Act) (s r : NodeState) (sends : List Outbound) → Explains c w → slice_get w.nodes k ≡ Some s → r.content ≡ s.content
+    → ((w' : Scene) → Grows w w' → w'.losing ≡ w.losing → NodeOk w' k r) → ((w' : Scene) → Grows w w' → (x : Outbound) → Contains sends x → BodyOk w' k x) → Explains c (next w k lost a s (only_sends sends) r)
+sends_case c w k lost a s r sends e at content node bodies =
+    let more : (p : Partition) (x : Held) → Reaches (changes_of s.content) p x → Reaches (changes_of r.content) p x = λ p x h. subst (λ cs. Reaches (changes_of cs) p x) (sym content) h in
+    let w' = quietly w k a s r (only_sends sends) in
+    let g = quietly_grows w k a s r (only_sends sends) at more in
+    quiet_next c w k lost a s r sends (explains_quietly c w k a s r (only_sends sends) e at more (node w' g refl) (bodies w' g))
 
 -- an entry, or a lost one, by a node that stays in a state of which this is known in each later scene
 pub one_entry : (c : Setting) (w : Scene) (k : ℕ) (lost : Bool) (a : Act) (s r : NodeState) (x : Entry) → Explains c w → slice_get w.nodes k ≡ Some s → ((p : Partition) (y : Held) → Reaches (changes_of s.content) p y → Reaches (changes_of r.content) p y) → IsNew w.past x
@@ -97,26 +102,19 @@ one_entry c w k false a s r x e at more new node entry right =
 pub node_later : (c : Setting) (w : Scene) (k : ℕ) (s : NodeState) → Explains c w → slice_get w.nodes k ≡ Some s → (w' : Scene) → Grows w w' → w'.losing ≡ w.losing → NodeOk w' k s
 node_later c w k s e at w' g losing = node_on c w w' g e k (λ l. losing ∙ l) s (e.nodes k s at)
 
--- ---- time rises, a node is marked, and a request is refused
+-- ---- time rises, and a request is refused
 
 pub rises_case : (c : Setting) (w : Scene) (k : ℕ) (lost : Bool) (t : ℕ) (s s' : NodeState) (o : Effects) → Explains c w → slice_get w.nodes k ≡ Some s → Does c k s (Rises t) o s' → Explains c (next w k lost (Rises t) s o s')
 rises_case c w k lost t s s' o e at (later, is, same) =
     subst (λ (x : Effects). Explains c (next w k lost (Rises t) s x s')) (sym is)
     (subst (λ (x : NodeState). Explains c (next w k lost (Rises t) s nothing x)) (sym same)
-    (same_case c w k lost (Rises t) s (record s { time = t; risen = t; ceiling = ceiling_after s.ceiling t }) e at refl refl refl))
-
-pub marks_case : (c : Setting) (w : Scene) (k : ℕ) (lost : Bool) (peer : ℕ) (up : Bool) (s s' : NodeState) (o : Effects) → Explains c w → slice_get w.nodes k ≡ Some s → Does c k s (Marks peer up) o s'
-    → Explains c (next w k lost (Marks peer up) s o s')
-marks_case c w k lost peer up s s' o e at (is, same) =
-    subst (λ (x : Effects). Explains c (next w k lost (Marks peer up) s x s')) (sym is)
-    (subst (λ (x : NodeState). Explains c (next w k lost (Marks peer up) s nothing x)) (sym same)
-    (same_case c w k lost (Marks peer up) s (record s { down = marked s.down peer up }) e at refl refl refl))
+    (same_case c w k lost (Rises t) s (record s { time = t; risen = t; ceiling = ceiling_after s.ceiling t }) e at refl refl refl refl))
 
 -- what is not looked at
 pub unheard_case : (c : Setting) (w : Scene) (k : ℕ) (lost : Bool) (a : Act) (s s' : NodeState) (o : Effects) → Explains c w → slice_get w.nodes k ≡ Some s → o ≡ nothing → s' ≡ s → Explains c (next w k lost a s o s')
 unheard_case c w k lost a s s' o e at is same =
     subst (λ (x : Effects). Explains c (next w k lost a s x s')) (sym is)
-    (subst (λ (x : NodeState). Explains c (next w k lost a s nothing x)) (sym same) (same_case c w k lost a s s e at refl refl refl))
+    (subst (λ (x : NodeState). Explains c (next w k lost a s nothing x)) (sym same) (same_case c w k lost a s s e at refl refl refl refl))
 
 refused_case : (c : Setting) (w : Scene) (k : ℕ) (lost : Bool) (a : Act) (id : ReqId) (r : Refusal) (s s' : NodeState) (o : Effects) → Explains c w → slice_get w.nodes k ≡ Some s → o ≡ record { sends = []; entries = Refused id r ∷ [] } → s' ≡ s
     → Explains c (next w k lost a s o s')
@@ -132,24 +130,43 @@ used_case c w k lost a id keyspace s s' o e at is same =
 
 -- ---- a write begins
 
-abbrev writing : NodeState → ReqId → Level → DraftMutation → NodeState
-writing s id l d = record s { writes = insert_entry request_cmp s.writes id (started_write l d) }
+abbrev writing : NodeState → ReqId → Level → DraftMutation → List ℕ → NodeState
+writing s id l d hinted = record (leaves_hints hinted id (mutation_of id d) s) { writes = insert_entry request_cmp s.writes id (started_write id l d hinted) }
+
+-- the hint is of the write that its request submitted
+hint_is : (w : Scene) (k : ℕ) (id : ReqId) (m : Mutation) (x : Hint) → id.node ≡ k → WasBegun w.past id → submission_of w.chronicle id ≡ Some m → x.born ≡ id.time → x.mutation ≡ m → HintOk w k x
+hint_is w k id m x mine begun submission born is =
+    let request : id ≡ record { node = k; time = x.born } = request_made mine (sym born) in
+    record {
+      begun = subst (λ (r : ReqId). WasBegun w.past r) request begun;
+      is = ap (λ (r : ReqId). submission_of w.chronicle r) (sym request) ∙ submission ∙ ap (λ (y : Mutation). Some y) (sym is);
+    }
+
+-- the hints behind those that a write leaves
+pub left_hints : (w : Scene) (k : ℕ) (id : ReqId) (m : Mutation) (peers : List ℕ) (s : NodeState) → id.node ≡ k → WasBegun w.past id → submission_of w.chronicle id ≡ Some m → ((x : Hint) → Contains s.hints x → HintOk w k x)
+    → (x : Hint) → Contains (push_hints peers id.time m (hints_in s)).hints x → HintOk w k x
+left_hints w k id m peers s mine begun submission old x there = elim (pushed_from peers id.time m (hints_in s) x there) [
+  | inl before ↦ old x before
+  | inr (born, is) ↦ hint_is w k id m x mine begun submission born is
+]
 
 -- where what it submits is the last under its id
-write_node : (c : Setting) (w w' : Scene) (k : ℕ) (s : NodeState) (id : ReqId) (l : Level) (d : DraftMutation) → NodeOk w' k s → WasBegun w'.past id → submission_of w'.chronicle id ≡ Some (mutation_of id d) → NodeOk w' k (writing s id l d)
-write_node c w w' k s id l d old begun submission =
-    let fresh : WriteOk w' id (started_write l d) = record {
+write_node : (w' : Scene) (k : ℕ) (s : NodeState) (id : ReqId) (l : Level) (d : DraftMutation) (hinted : List ℕ) → id.node ≡ k → NodeOk w' k s → WasBegun w'.past id → submission_of w'.chronicle id ≡ Some (mutation_of id d) → NodeOk w' k (writing s id l d hinted)
+write_node w' k s id l d hinted mine old begun submission =
+    let fresh : WriteOk w' k id (started_write id l d hinted) = record {
+      mine = mine;
       begun = begun;
-      partition = λ n sub. ap (λ (x : Mutation). x.partition) (some_one (sym sub ∙ submission));
+      is = submission;
       heard = λ j h. absurd (contains_nil j h);
     } in
     record {
       of = old.of;
-      writes = λ i o h. elim (from_insert_entry request_cmp request_exact s.writes id (started_write l d) (i, o) h) [
-        | inl is ↦ subst (λ (x : ReqId × OpenWrite). WriteOk w' x.0 x.1) (sym is) fresh
+      writes = λ i o h. elim (in_inserted s.writes id (started_write id l d hinted) (i, o) h) [
+        | inl is ↦ subst (λ (x : ReqId × OpenWrite). WriteOk w' k x.0 x.1) (sym is) fresh
         | inr there ↦ old.writes i o there
       ];
       reads = old.reads;
+      hints = left_hints w' k id (mutation_of id d) hinted s mine begun submission old.hints;
     }
 
 write_bodies : (w' : Scene) (k : ℕ) (id : ReqId) (m : Mutation) (ks : List ℕ) → WasBegun w'.past id → submission_of w'.chronicle id ≡ Some m → (x : Outbound) → Contains (send_to id (Write m) ks) x → BodyOk w' k x
@@ -157,30 +174,30 @@ write_bodies w' k id m ks begun submission x h = let made = contains_from_map (o
 
 write_case : (c : Setting) (w : Scene) (k : ℕ) (lost : Bool) (ask : Ask) (s : NodeState) (d : DraftMutation) (l : Level) → Explains c w → slice_get w.nodes k ≡ Some s → MayTake w.past k s (Asks ask)
     → let id : ReqId = record { node = k; time = s.risen } in
-    AreTold lost w.chronicle (Submitted id (mutation_of id d) ∷ []) → Explains c (next w k lost (Asks ask) s (effects_of (start_write c s.down id d)) (record s { writes = insert_entry request_cmp s.writes id (started_write l d) }))
+    AreTold lost w.chronicle (Submitted id (mutation_of id d) ∷ []) → Explains c (next w k lost (Asks ask) s (effects_of (start_write c s.down id d)) (writing s id l d (hinted_at c s d)))
 write_case c w k true ask s d l e at may told =
     let id : ReqId = record { node = k; time = s.risen } in
     let m = mutation_of id d in
     let ks = alive_at c s.down d.partition in
-    let r = writing s id l d in
+    let r = writing s id l d (hinted_at c s d) in
     let o = with_one (send_to id (Write m) ks) (Submitted id m) in
     let w' = quietly w k (Asks ask) s r o in
     let g = quietly_grows w k (Asks ask) s r o at (λ p x h. h) in
     let begun : WasBegun w'.past id = (deed_of k (Asks ask) s r o, contains_here _ w.past, (refl, refl, (ask, refl))) in
     let submission : submission_of w'.chronicle id ≡ Some m = told (Submitted id m) (contains_here (Submitted id m) []) in
-    explains_quietly c w k (Asks ask) s r o e at (λ p x h. h) (write_node c w w' k s id l d (node_later c w k s e at w' g refl) begun submission) (write_bodies w' k id m ks begun submission)
+    explains_quietly c w k (Asks ask) s r o e at (λ p x h. h) (write_node w' k s id l d (hinted_at c s d) refl (node_later c w k s e at w' g refl) begun submission) (write_bodies w' k id m ks begun submission)
 write_case c w k false ask s d l e at may told =
     let id : ReqId = record { node = k; time = s.risen } in
     let m = mutation_of id d in
     let ks = alive_at c s.down d.partition in
-    let r = writing s id l d in
+    let r = writing s id l d (hinted_at c s d) in
     let sends = send_to id (Write m) ks in
     let w' = telling w k (Asks ask) s r sends (Submitted id m) in
     let new : WasBegun w.past id → ⊥ = λ b. may b.0 b.1 b.2 in
     let g = telling_grows w k (Asks ask) s r sends (Submitted id m) at (λ p x h. h) new in
     let begun : WasBegun w'.past id = (deed_of k (Asks ask) s r (with_one sends (Submitted id m)), contains_here _ w.past, (refl, refl, (ask, refl))) in
     let submission : submission_of w'.chronicle id ≡ Some m = ap (λ (b : Bool). if b then Some m else submission_of w.chronicle id) (itself id) in
-    explains_telling c w k (Asks ask) s r sends (Submitted id m) e at (λ p x h. h) new (write_node c w w' k s id l d (node_later c w k s e at w' g refl) begun submission) (write_bodies w' k id m ks begun submission) tt tt
+    explains_telling c w k (Asks ask) s r sends (Submitted id m) e at (λ p x h. h) new (write_node w' k s id l d (hinted_at c s d) refl (node_later c w k s e at w' g refl) begun submission) (write_bodies w' k id m ks begun submission) tt tt
 
 -- ---- a read begins
 
@@ -208,10 +225,11 @@ read_node w' k s id l q old begun only start =
     record {
       of = old.of;
       writes = old.writes;
-      reads = λ i o h. elim (from_insert_entry request_cmp request_exact s.reads id (started_read l q) (i, o) h) [
+      reads = λ i o h. elim (in_inserted s.reads id (started_read l q) (i, o) h) [
         | inl is ↦ subst (λ (x : ReqId × OpenRead). ReadOk w' k x.0 x.1) (sym is) fresh
         | inr there ↦ old.reads i o there
       ];
+      hints = old.hints;
     }
 
 read_bodies : (w' : Scene) (k : ℕ) (id : ReqId) (l : Level) (q : Query) (ks : List ℕ) → WasBegun w'.past id → BeganOnly w' id q l → (x : Outbound) → Contains (send_to id (Read q) ks) x → BodyOk w' k x

@@ -13,8 +13,9 @@ use Rattle.statement_plan.specs.declared.plan.Columns.{Columns}
 use Rattle.changes.specs.Order.{Outranks, IsBeside}
 use Rattle.changes.specs.Contents.{IsReachedBy}
 use Rattle.changes.specs.Queries.{InQuery}
+use Rattle.row_change.specs.declared.entry.Hint as hint
 use Rattle.peer_messages.specs.declared.message.Body.{Body}
-use Rattle.peer_messages.specs.declared.message.Body.TheVariants.{Write, WriteAck, Read, ReadReply}
+use Rattle.peer_messages.specs.declared.message.Body.TheVariants.{Write, WriteAck, Read, ReadReply, Hint, HintAck}
 use Rattle.peer_messages.specs.declared.chronicle.Entry.{Entry}
 use Rattle.peer_messages.specs.declared.chronicle.Entry.TheVariants.{Asked, Submitted, Acked, Refused, Used, Began, Rows, Marks, Time, Turned, Tables, Stopped}
 use Rattle.peer_messages.specs.declared.outcome.Outbound.{Outbound}
@@ -22,6 +23,7 @@ use Rattle.peer_messages.specs.declared.setting.Setting.{Setting}
 use Rattle.peer_messages.specs.Settings.{replicas_of, needed}
 use Rattle.durable_state.specs.State.{changes_of, Holds}
 use Rattle.node_steps.specs.State.{NodeState, OpenWrite, OpenRead}
+use Rattle.node_steps.specs.Hints.{request_of}
 use Rattle.node_steps.specs.Acts.{Deed}
 use Rattle.node_steps.specs.Reads.{heard_by}
 use Rattle.cluster_runs.specs.Chronicle.{submission_of, StandsBefore}
@@ -76,15 +78,24 @@ BodyIs w from id (Write m) = submission_of w.chronicle id ≡ Some m
 BodyIs w from id WriteAck = HasAll w from id
 BodyIs w from id (Read q) = IsQueryOf w.chronicle id q
 BodyIs w from id (ReadReply content) = ReplyOk w from id content
+BodyIs w from id (Hint number m) = submission_of w.chronicle id ≡ Some m
+BodyIs w from id (HintAck number) = Unit {0}
 
 pub record BodyOk (w : Scene) (from : ℕ) (x : Outbound) : Type 0 where
   pub begun : WasBegun w.past x.request
   pub is : BodyIs w from x.request x.body
 
-pub record WriteOk (w : Scene) (id : ReqId) (o : OpenWrite) : Type 0 where
+-- an open write of node k
+pub record WriteOk (w : Scene) (k : ℕ) (id : ReqId) (o : OpenWrite) : Type 0 where
+  pub mine : id.node ≡ k
   pub begun : WasBegun w.past id
-  pub partition : (m : Mutation) → submission_of w.chronicle id ≡ Some m → m.partition ≡ o.partition
+  pub is : submission_of w.chronicle id ≡ Some o.mutation
   pub heard : (j : ℕ) → Contains o.heard j → HasAll w j id
+
+-- a hint that node k keeps is of a write that it submitted
+pub record HintOk (w : Scene) (k : ℕ) (h : hint.Hint) : Type 0 where
+  pub begun : WasBegun w.past (request_of k h)
+  pub is : submission_of w.chronicle (request_of k h) ≡ Some h.mutation
 
 -- what is known of an open read, if it began with this
 pub record ReadIs (w : Scene) (id : ReqId) (o : OpenRead) (q : Query) (l : Level) : Type 0 where
@@ -102,8 +113,9 @@ pub record ReadOk (w : Scene) (k : ℕ) (id : ReqId) (o : OpenRead) : Type 0 whe
 
 pub record NodeOk (w : Scene) (k : ℕ) (s : NodeState) : Type 0 where
   pub of : (p : Partition) (x : Held) → Holds (changes_of s.content) p x → IsOf w.chronicle p (Reaches (changes_of s.content) p) x
-  pub writes : (id : ReqId) (o : OpenWrite) → Contains s.writes (id, o) → WriteOk w id o
+  pub writes : (id : ReqId) (o : OpenWrite) → Contains s.writes (id, o) → WriteOk w k id o
   pub reads : (id : ReqId) (o : OpenRead) → Contains s.reads (id, o) → ReadOk w k id o
+  pub hints : (h : hint.Hint) → Contains s.hints h → HintOk w k h
 
 -- an acknowledged write was heard of by as many replicas as its level waits for, each of which has it
 pub record AckedOk (c : Setting) (w : Scene) (id : ReqId) (l : Level) (heard : List ℕ) : Type 0 where

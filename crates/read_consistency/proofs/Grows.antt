@@ -9,20 +9,22 @@ use Rattle.changes.specs.declared.Held.{Held}
 use Rattle.changes.specs.declared.Mutation.{Mutation}
 use Rattle.changes.specs.declared.Query.{Query}
 use Rattle.statement_plan.specs.declared.plan.Columns.{Columns}
+use Rattle.row_change.specs.declared.entry.Hint as hint
 use Rattle.cs_base.proofs.Members.{contains_cases, contains_here, contains_there}
 use Rattle.peer_messages.specs.declared.message.Body.{Body}
-use Rattle.peer_messages.specs.declared.message.Body.TheVariants.{Write, WriteAck, Read, ReadReply}
+use Rattle.peer_messages.specs.declared.message.Body.TheVariants.{Write, WriteAck, Read, ReadReply, Hint, HintAck}
 use Rattle.peer_messages.specs.declared.chronicle.Entry.{Entry}
 use Rattle.peer_messages.specs.declared.chronicle.Entry.TheVariants.{Asked, Submitted, Acked, Refused, Used, Began, Rows, Marks, Time, Turned, Tables, Stopped}
 use Rattle.peer_messages.specs.declared.outcome.Outbound.{Outbound}
 use Rattle.peer_messages.specs.declared.setting.Setting.{Setting}
 use Rattle.durable_state.specs.State.{changes_of}
 use Rattle.node_steps.specs.State.{NodeState, OpenWrite, OpenRead}
+use Rattle.node_steps.specs.Hints.{request_of}
 use Rattle.node_steps.specs.Acts.{Deed}
 use Rattle.cluster_runs.specs.Chronicle.{submission_of, StandsBefore}
 use Rattle.cluster_runs.specs.Trace.{Scene}
 use Rattle.cluster_runs.proofs.Submissions.{same_request, is_not}
-use Rattle.read_consistency.proofs.Facts.{WasBegun, Reaches, HasAll, IsQueryOf, IsOf, Sees, Answers, ReplyOk, BodyIs, BodyOk, WriteOk, ReadOk, NodeOk, AckedOk, EntryOk, Explains}
+use Rattle.read_consistency.proofs.Facts.{WasBegun, Reaches, HasAll, IsQueryOf, IsOf, Sees, Answers, ReplyOk, BodyIs, BodyOk, WriteOk, HintOk, ReadOk, NodeOk, AckedOk, EntryOk, Explains}
 
 pub record Grows (w w' : Scene) : Type 0 where
   pub past : (d : Deed) → Contains w.past d → Contains w'.past d
@@ -77,14 +79,20 @@ body_is_on c w w' g e j id (Write m) begun h = g.submissions id begun ∙ h
 body_is_on c w w' g e j id WriteAck begun h = has_all_on w w' g j id begun h
 body_is_on c w w' g e j id (Read q) begun h = query_on w w' g id q begun h
 body_is_on c w w' g e j id (ReadReply content) begun h = reply_on c w w' g e j id content begun h
+body_is_on c w w' g e j id (Hint number m) begun h = g.submissions id begun ∙ h
+body_is_on c w w' g e j id (HintAck number) begun h = tt
 
 pub body_on : (c : Setting) (w w' : Scene) → Grows w w' → Explains c w → (j : ℕ) (x : Outbound) → BodyOk w j x → BodyOk w' j x
 body_on c w w' g e j x h = record { begun = begun_on w w' g x.request h.begun; is = body_is_on c w w' g e j x.request x.body h.begun h.is }
 
-pub write_on : (w w' : Scene) → Grows w w' → (id : ReqId) (o : OpenWrite) → WriteOk w id o → WriteOk w' id o
-write_on w w' g id o h = record {
+pub hint_on : (w w' : Scene) → Grows w w' → (k : ℕ) (x : hint.Hint) → HintOk w k x → HintOk w' k x
+hint_on w w' g k x h = record { begun = begun_on w w' g (request_of k x) h.begun; is = g.submissions (request_of k x) h.begun ∙ h.is }
+
+pub write_on : (w w' : Scene) → Grows w w' → (k : ℕ) (id : ReqId) (o : OpenWrite) → WriteOk w k id o → WriteOk w' k id o
+write_on w w' g k id o h = record {
+  mine = h.mine;
   begun = begun_on w w' g id h.begun;
-  partition = λ m sub. h.partition m (sym (g.submissions id h.begun) ∙ sub);
+  is = g.submissions id h.begun ∙ h.is;
   heard = λ j c. has_all_on w w' g j id h.begun (h.heard j c);
 }
 
@@ -113,8 +121,9 @@ read_on c w w' g e k stays id o h = record {
 pub node_on : (c : Setting) (w w' : Scene) → Grows w w' → Explains c w → (k : ℕ) → StaysLosing w w' k → (s : NodeState) → NodeOk w k s → NodeOk w' k s
 node_on c w w' g e k stays s h = record {
   of = λ p x c. of_on w w' g p _ _ x (λ y r. r) (h.of p x c);
-  writes = λ id o c. write_on w w' g id o (h.writes id o c);
+  writes = λ id o c. write_on w w' g k id o (h.writes id o c);
   reads = λ id o there. read_on c w w' g e k stays id o (h.reads id o there);
+  hints = λ x there. hint_on w w' g k x (h.hints x there);
 }
 
 acked_on : (c : Setting) (w w' : Scene) → Grows w w' → (id : ReqId) (l : Level) (heard : List ℕ) → AckedOk c w id l heard → AckedOk c w' id l heard

@@ -1,14 +1,9 @@
 -- Each body that a node hears keeps what is known.
-use Rattle.std.proofs.Common.{◌≡◌, ℕ, ◌⊎◌, ◌≤◌, inl, inr, Bool, true, false, cond, map, Option, Some, None, List, [], ◌∷◌, ◌++◌, refl, sym, ap, subst, ◌∙◌, Contains}
+use Rattle.std.proofs.Common.{◌≡◌, ℕ, ◌⊎◌, ◌≤◌, inl, inr, Bool, true, false, map, Option, Some, None, List, [], ◌∷◌, ◌++◌, refl, sym, ap, subst, ◌∙◌, Contains}
 use Rattle.std.specs.Prelude.{slice_get, ◌&&◌, not, if◌then◌else◌, MatchBool, nat_lt}
-use Rattle.std.specs.Ordering.{is_eq}
-use Rattle.std.specs.declared.cmp.Ordering.{Ordering}
-use Rattle.std.specs.declared.cmp.Ordering.TheVariants.{Less, Equal, Greater}
-use Rattle.std.specs.Map.{set_value, remove_entry}
 use Rattle.std.specs.BTreeMap.{is_at}
 use Rattle.std.proofs.lemmas.Bool.{ltb-false}
 use Rattle.std.proofs.lemmas.List.{map-append}
-use Rattle.std.proofs.lemmas.Map.Views.{Contains-from_lookup}
 use Rattle.cs_base.specs.declared.ids.ReqId.{ReqId}
 use Rattle.cs_base.specs.declared.level.Level.{Level}
 use Rattle.cs_base.specs.Requests.{request_cmp}
@@ -20,8 +15,9 @@ use Rattle.changes.specs.declared.Query.{Query}
 use Rattle.changes.specs.declared.ShownRow.{ShownRow}
 use Rattle.changes.specs.Contents.{IsMergeOf}
 use Rattle.changes.specs.Shown.{IsShown}
-use Rattle.cs_base.proofs.Members.{contains_cases, contains_here, contains_there, contains_push, contains_from_map}
-use Rattle.peer_messages.specs.declared.message.Body.TheVariants.{Write, WriteAck, Read, ReadReply}
+use Rattle.cs_base.proofs.Members.{contains_push, contains_from_map}
+use Rattle.peer_messages.specs.declared.message.Body.{Body}
+use Rattle.peer_messages.specs.declared.message.Body.TheVariants.{WriteAck, Read, ReadReply}
 use Rattle.peer_messages.specs.declared.chronicle.Entry.{Entry}
 use Rattle.peer_messages.specs.declared.chronicle.Entry.TheVariants.{Acked, Rows}
 use Rattle.peer_messages.specs.declared.outcome.Outbound.{Outbound}
@@ -35,7 +31,8 @@ use Rattle.node_steps.specs.Effects.{Effects, nothing, effects_of, outbound, sen
 use Rattle.node_steps.specs.Writes.{acks_of, write_needs, heard_write, answered_write, ack_told, ack_turn, HearsAck}
 use Rattle.node_steps.specs.Reads.{replied_from, heard_by, replies_of, read_needs, is_stray, TellsRows, MergesReply, HearsReply}
 use Rattle.node_steps.specs.Replicas.{replies}
-use Rattle.node_steps.specs.Acts.{Act, Incoming, HearsBody}
+use Rattle.node_steps.specs.Acts.{Act, Incoming, HearsBody, TakesChanges}
+use Rattle.node_steps.proofs.Opened.{open_in, in_set, in_left, in_moved}
 use Rattle.cluster_runs.specs.Chronicle.{submission_of}
 use Rattle.cluster_runs.specs.Trace.{Scene, WasMade, loser}
 use Rattle.cs_base.proofs.Slots.{some_one, get_set}
@@ -45,7 +42,7 @@ use Rattle.read_consistency.proofs.Grows.{Grows, begun_on, of_on, stands_in, wri
 use Rattle.read_consistency.proofs.Reach.{grown, taken, source, slice_reached, merge_first, merge_second, merge_answers}
 use Rattle.read_consistency.proofs.Answer.{right_answer}
 use Rattle.read_consistency.proofs.Step.{none_some, quietly, telling, quietly_grows, telling_grows, explains_quietly, explains_telling}
-use Rattle.read_consistency.proofs.Cases.{next, only_sends, with_one, quiet_next, request_exact, same_case, none_sent, one_entry, node_later}
+use Rattle.read_consistency.proofs.Cases.{next, only_sends, with_one, quiet_next, same_case, none_sent, one_entry, node_later}
 
 -- what comes to a node is known
 pub record Known (w : Scene) (m : Incoming) : Type 0 where
@@ -57,13 +54,14 @@ known c w k m e made =
     let ok = e.bodies made.deed made.there _ made.made in
     record { begun = ok.begun; is = subst (λ (j : ℕ). BodyIs w j m.request m.body) made.node ok.is }
 
--- ---- a write comes
+-- ---- a write or a hint comes
 
-pub write_heard : (c : Setting) (w : Scene) (k : ℕ) (lost : Bool) (from : ℕ) (id : ReqId) (m : Mutation) (s s' : NodeState) (o : Effects) → Explains c w → slice_get w.nodes k ≡ Some s → (a : Act) → WasBegun w.past id → submission_of w.chronicle id ≡ Some m
-    → HearsBody c (record { from = from; request = id }) (Write m) s o s' → Explains c (next w k lost a s o s')
-write_heard c w k lost from id m s s' o e at a begun submission (t, arrive, is, same) =
+-- what was submitted is taken in, and this says so
+pub taken_in : (c : Setting) (w : Scene) (k : ℕ) (lost : Bool) (from : ℕ) (id : ReqId) (m : Mutation) (reply : Body) (s s' : NodeState) (o : Effects) → Explains c w → slice_get w.nodes k ≡ Some s → (a : Act) → WasBegun w.past id
+    → submission_of w.chronicle id ≡ Some m → ((v : Scene) → HasAll v k id → BodyIs v k id reply) → TakesChanges (record { from = from; request = id }) m.partition m.changes reply s o s' → Explains c (next w k lost a s o s')
+taken_in c w k lost from id m reply s s' o e at a begun submission says (t, arrive, is, same) =
     let r : NodeState = record s { content = s'.content } in
-    let sends = send_to id WriteAck (from ∷ []) in
+    let sends = send_to id reply (from ∷ []) in
     let out = only_sends sends in
     let more : (p : Partition) (x : Held) → Reaches (changes_of s.content) p x → Reaches (changes_of r.content) p x = grown (changes_of s.content) (changes_of s'.content) m.partition m.changes t in
     let w' = quietly w k a s r out in
@@ -77,7 +75,7 @@ write_heard c w k lost from id m s s' o e at a begun submission (t, arrive, is, 
     (subst (λ (v : Mutation). Reaches (changes_of r.content) v.partition y) (sym one) (taken (changes_of s.content) (changes_of s'.content) m.partition m.changes t y (subst (λ (v : Mutation). Contains v.changes y) one in_n)))
     in
     subst (λ (x : Effects). Explains c (next w k lost a s x s')) (sym is)
-    (subst (λ (x : NodeState). Explains c (next w k lost a s (replies (record { from = from; request = id }) WriteAck) x)) (sym same)
+    (subst (λ (x : NodeState). Explains c (next w k lost a s (replies (record { from = from; request = id }) reply) x)) (sym same)
     (quiet_next c w k lost a s r sends (explains_quietly c w k a s r out e at more
     (record {
       of = λ p x held. elim (source (changes_of s.content) (changes_of s'.content) m.partition m.changes t p x held) [
@@ -93,47 +91,9 @@ write_heard c w k lost from id m s s' o e at a begun submission (t, arrive, is, 
       ];
       writes = old.writes;
       reads = old.reads;
+      hints = old.hints;
     })
-    (λ x h. let made = contains_from_map (outbound id WriteAck) (from ∷ []) x h in subst (λ (y : Outbound). BodyOk w' k y) made.2 (record { begun = begun_on w w' g id begun; is = has })))))
-
--- ---- open requests that have moved
-
-equal_at : (o : Ordering) → is_eq o ≡ true → o ≡ Equal
-equal_at Less p = cc
-equal_at Equal p = refl
-equal_at Greater p = cc
-
-at_request : (a b : ReqId) → is_at (request_cmp a) b ≡ true → a ≡ b
-at_request a b t = request_exact a b (equal_at (request_cmp a b) t)
-
-pub open_in : {A : Type 0} (xs : List (ReqId × A)) (id : ReqId) (a : A) → open_at xs id ≡ Some a → Contains xs (id, a)
-open_in {A} xs id a h = Contains-from_lookup {eq = λ x y. is_at (request_cmp x) y} at_request id a xs h
-
-in_set_cases : {A : Type 0} (b : Bool) (id : ReqId) (e : ReqId × A) (xs rest : List (ReqId × A)) (a : A) (x : ReqId × A) → is_at (request_cmp id) e.0 ≡ b → (Contains rest x → Contains xs x ⊎ ((x.0 ≡ id) × (x.1 ≡ a)))
-    → Contains (cond b ((e.0, a) ∷ xs) (e ∷ rest)) x → Contains (e ∷ xs) x ⊎ ((x.0 ≡ id) × (x.1 ≡ a))
-in_set_cases {A} true id e xs rest a x test more h = elim (contains_cases (e.0, a) xs x h) [
-  | inl here ↦ inr (ap (λ (y : ReqId × A). y.0) (sym here) ∙ sym (at_request id e.0 test), ap (λ (y : ReqId × A). y.1) (sym here))
-  | inr there ↦ inl (contains_there e xs x there)
-]
-in_set_cases {A} false id e xs rest a x test more h = elim (contains_cases e rest x h) [
-  | inl here ↦ inl (subst (λ (y : ReqId × A). Contains (e ∷ xs) y) here (contains_here e xs))
-  | inr there ↦ elim (more there) [ inl old ↦ inl (contains_there e xs x old) | inr new ↦ inr new ]
-]
-
-in_set : {A : Type 0} (id : ReqId) (xs : List (ReqId × A)) (a : A) (x : ReqId × A) → Contains (set_value (is_at (request_cmp id)) xs a) x → Contains xs x ⊎ ((x.0 ≡ id) × (x.1 ≡ a))
-in_set {A} id [] a x h = inl h
-in_set {A} id (e ∷ xs) a x h = in_set_cases (is_at (request_cmp id) e.0) id e xs (set_value (is_at (request_cmp id)) xs a) a x refl (in_set id xs a x) h
-
-in_left_cases : {A : Type 0} (b : Bool) (e : ReqId × A) (xs rest : List (ReqId × A)) (x : ReqId × A) → (Contains rest x → Contains xs x) → Contains (cond b xs (e ∷ rest)) x → Contains (e ∷ xs) x
-in_left_cases {A} true e xs rest x more h = contains_there e xs x h
-in_left_cases {A} false e xs rest x more h = elim (contains_cases e rest x h) [
-  | inl here ↦ subst (λ (y : ReqId × A). Contains (e ∷ xs) y) here (contains_here e xs)
-  | inr there ↦ contains_there e xs x (more there)
-]
-
-in_left : {A : Type 0} (test : ReqId → Bool) (xs : List (ReqId × A)) (x : ReqId × A) → Contains (remove_entry test xs) x → Contains xs x
-in_left {A} test [] x h = h
-in_left {A} test (e ∷ xs) x h = in_left_cases (test e.0) e xs (remove_entry test xs) x (in_left test xs x) h
+    (λ x h. let made = contains_from_map (outbound id reply) (from ∷ []) x h in subst (λ (y : Outbound). BodyOk w' k y) made.2 (record { begun = begun_on w w' g id begun; is = says w' has })))))
 
 -- ---- an acknowledgement comes
 
@@ -141,36 +101,36 @@ in_heard : (b : Bool) (heard : List ℕ) (from j : ℕ) → Contains (if b then 
 in_heard true heard from j h = (contains_push heard from j).0 h
 in_heard false heard from j h = inl h
 
-pub ack_ok : (c : Setting) (w : Scene) (from : ℕ) (id : ReqId) (o : OpenWrite) → WriteOk w id o → HasAll w from id → WriteOk w id (heard_write c from o)
-ack_ok c w from id o ok has = record {
+pub ack_ok : (c : Setting) (w : Scene) (k from : ℕ) (id : ReqId) (o : OpenWrite) → WriteOk w k id o → HasAll w from id → WriteOk w k id (heard_write c from o)
+ack_ok c w k from id o ok has = record {
+  mine = ok.mine;
   begun = ok.begun;
-  partition = ok.partition;
-  heard = λ j h. elim (in_heard (not (is_in o.heard from) && is_in (replicas_of c o.partition) from) o.heard from j h) [
+  is = ok.is;
+  heard = λ j h. elim (in_heard (not (is_in o.heard from) && is_in (replicas_of c o.mutation.partition) from) o.heard from j h) [
     | inl old ↦ ok.heard j old
     | inr here ↦ subst (λ (i : ℕ). HasAll w i id) here has
   ];
 }
 
-answered_ok : (c : Setting) (w : Scene) (id : ReqId) (o : OpenWrite) → WriteOk w id o → WriteOk w id (answered_write c o)
-answered_ok c w id o ok = record { begun = ok.begun; partition = ok.partition; heard = ok.heard }
+answered_ok : (c : Setting) (w : Scene) (k : ℕ) (id : ReqId) (o : OpenWrite) → WriteOk w k id o → WriteOk w k id (answered_write c o)
+answered_ok c w k id o ok = record { mine = ok.mine; begun = ok.begun; is = ok.is; heard = ok.heard }
 
 -- the open writes that are left of those of the node and this one
-write_left : (ended : Bool) (w : Scene) (id : ReqId) (xs : List (ReqId × OpenWrite)) (o : OpenWrite) → ((i : ReqId) (x : OpenWrite) → Contains xs (i, x) → WriteOk w i x) → WriteOk w id o
-    → (i : ReqId) (x : OpenWrite) → Contains (after_move ended id o xs) (i, x) → WriteOk w i x
-write_left true w id xs o old ok i x h = old i x (in_left (is_at (request_cmp id)) xs (i, x) h)
-write_left false w id xs o old ok i x h = elim (in_set id xs o (i, x) h) [
+write_left : (ended : Bool) (w : Scene) (k : ℕ) (id : ReqId) (xs : List (ReqId × OpenWrite)) (o : OpenWrite) → ((i : ReqId) (x : OpenWrite) → Contains xs (i, x) → WriteOk w k i x) → WriteOk w k id o
+    → (i : ReqId) (x : OpenWrite) → Contains (after_move ended id o xs) (i, x) → WriteOk w k i x
+write_left ended w k id xs o old ok i x h = elim (in_moved ended id xs o (i, x) h) [
   | inl there ↦ old i x there
-  | inr (here, same) ↦ subst (λ (y : ReqId). WriteOk w y x) (sym here) (subst (λ (y : OpenWrite). WriteOk w id y) (sym same) ok)
+  | inr (here, same) ↦ subst (λ (y : ReqId). WriteOk w k y x) (sym here) (subst (λ (y : OpenWrite). WriteOk w k id y) (sym same) ok)
 ]
 
 -- the node behind an acknowledgement, in a later scene
-ack_node : (c : Setting) (w : Scene) (k : ℕ) (ended : Bool) (id : ReqId) (s : NodeState) (o : OpenWrite) → Explains c w → slice_get w.nodes k ≡ Some s → WriteOk w id o
+ack_node : (c : Setting) (w : Scene) (k : ℕ) (ended : Bool) (id : ReqId) (s : NodeState) (o : OpenWrite) → Explains c w → slice_get w.nodes k ≡ Some s → WriteOk w k id o
     → (v : Scene) → Grows w v → v.losing ≡ w.losing → NodeOk v k (record s { writes = after_move ended id o s.writes })
 ack_node c w k ended id s o e at ok v more same =
     let old = node_later c w k s e at v more same in
-    record { of = old.of; writes = write_left ended v id s.writes o old.writes (write_on w v more id o ok); reads = old.reads }
+    record { of = old.of; writes = write_left ended v k id s.writes o old.writes (write_on w v more k id o ok); reads = old.reads; hints = old.hints }
 
-ack_quiet : (c : Setting) (w : Scene) (k : ℕ) (lost : Bool) (a : Act) (ended : Bool) (id : ReqId) (s : NodeState) (o : OpenWrite) → Explains c w → slice_get w.nodes k ≡ Some s → WriteOk w id o
+ack_quiet : (c : Setting) (w : Scene) (k : ℕ) (lost : Bool) (a : Act) (ended : Bool) (id : ReqId) (s : NodeState) (o : OpenWrite) → Explains c w → slice_get w.nodes k ≡ Some s → WriteOk w k id o
     → Explains c (next w k lost a s nothing (record s { writes = after_move ended id o s.writes }))
 ack_quiet c w k lost a ended id s o e at ok =
     let r : NodeState = record s { writes = after_move ended id o s.writes } in
@@ -178,22 +138,22 @@ ack_quiet c w k lost a ended id s o e at ok =
     let g = quietly_grows w k a s r nothing at (λ p x h. h) in
     quiet_next c w k lost a s r [] (explains_quietly c w k a s r nothing e at (λ p x h. h) (ack_node c w k ended id s o e at ok w' g refl) (none_sent w' k))
 
-ack_tells : (c : Setting) (w : Scene) (k : ℕ) (lost : Bool) (a : Act) (ended : Bool) (id : ReqId) (s : NodeState) (n o : OpenWrite) → Explains c w → slice_get w.nodes k ≡ Some s → WriteOk w id n → WriteOk w id o → write_needs c n ≤ acks_of c n
+ack_tells : (c : Setting) (w : Scene) (k : ℕ) (lost : Bool) (a : Act) (ended : Bool) (id : ReqId) (s : NodeState) (n o : OpenWrite) → Explains c w → slice_get w.nodes k ≡ Some s → WriteOk w k id n → WriteOk w k id o → write_needs c n ≤ acks_of c n
     → Explains c (next w k lost a s (with_one [] (Acked id n.level n.heard)) (record s { writes = after_move ended id o s.writes }))
 ack_tells c w k lost a ended id s n o e at heard ok enough =
     let r : NodeState = record s { writes = after_move ended id o s.writes } in
     let x : Entry = Acked id n.level n.heard in
     let g = telling_grows w k a s r [] x at (λ p y h. h) tt in
-    let heard' = write_on w (telling w k a s r [] x) g id n heard in
+    let heard' = write_on w (telling w k a s r [] x) g k id n heard in
     one_entry c w k lost a s r x e at (λ p y h. h) tt (ack_node c w k ended id s o e at ok)
     (record {
       begun = heard'.begun;
-      count = λ m sub. subst (λ (p : Partition). needed c n.level p ≤ heard_of (replicas_of c p) n.heard) (sym (heard'.partition m sub)) enough;
+      count = λ m sub. subst (λ (v : Mutation). needed c n.level v.partition ≤ heard_of (replicas_of c v.partition) n.heard) (some_one (sym heard'.is ∙ sub)) enough;
       has = heard'.heard;
     })
     tt
 
-ack_told_case : (c : Setting) (w : Scene) (k : ℕ) (lost : Bool) (a : Act) (ended : Bool) (id : ReqId) (s : NodeState) (n o : OpenWrite) (answered less : Bool) → Explains c w → slice_get w.nodes k ≡ Some s → WriteOk w id n → WriteOk w id o
+ack_told_case : (c : Setting) (w : Scene) (k : ℕ) (lost : Bool) (a : Act) (ended : Bool) (id : ReqId) (s : NodeState) (n o : OpenWrite) (answered less : Bool) → Explains c w → slice_get w.nodes k ≡ Some s → WriteOk w k id n → WriteOk w k id o
     → nat_lt (acks_of c n) (write_needs c n) ≡ less → Explains c (next w k lost a s (record { sends = []; entries = ack_told answered (not less) id n }) (record s { writes = after_move ended id o s.writes }))
 ack_told_case c w k lost a ended id s n o true less e at heard ok test = ack_quiet c w k lost a ended id s o e at ok
 ack_told_case c w k lost a ended id s n o false true e at heard ok test = ack_quiet c w k lost a ended id s o e at ok
@@ -202,17 +162,17 @@ ack_told_case c w k lost a ended id s n o false false e at heard ok test = ack_t
 ack_taken : (c : Setting) (w : Scene) (k : ℕ) (lost : Bool) (from : ℕ) (a : Act) (id : ReqId) (s : NodeState) (turn : Move) (xs' : List (ReqId × OpenWrite)) (o : Option OpenWrite) → Explains c w → slice_get w.nodes k ≡ Some s → HasAll w from id
     → open_at s.writes id ≡ o → Takes (HearsAck c id from) id s.writes o turn xs' → Explains c (next w k lost a s (effects_of turn) (record s { writes = xs' }))
 ack_taken c w k lost from a id s turn xs' None e at has found (is, same) =
-    subst (λ (t : Move). Explains c (next w k lost a s (effects_of t) (record s { writes = xs' }))) (sym is) (same_case c w k lost a s (record s { writes = xs' }) e at refl same refl)
+    subst (λ (t : Move). Explains c (next w k lost a s (effects_of t) (record s { writes = xs' }))) (sym is) (same_case c w k lost a s (record s { writes = xs' }) e at refl same refl refl)
 ack_taken c w k lost from a id s turn xs' (Some o) e at has found (o', (is, same), after) =
     let n = heard_write c from o in
-    let heard = ack_ok c w from id o ((e.nodes k s at).writes id o (open_in s.writes id o found)) has in
-    let told = ack_told_case c w k lost a (ack_turn c id n).ended id s n (answered_write c n) n.answered (nat_lt (acks_of c n) (write_needs c n)) e at heard (answered_ok c w id n heard) refl in
+    let heard = ack_ok c w k from id o ((e.nodes k s at).writes id o (open_in s.writes id o found)) has in
+    let told = ack_told_case c w k lost a (ack_turn c id n).ended id s n (answered_write c n) n.answered (nat_lt (acks_of c n) (write_needs c n)) e at heard (answered_ok c w k id n heard) refl in
     subst (λ (xs : List (ReqId × OpenWrite)). Explains c (next w k lost a s (effects_of turn) (record s { writes = xs }))) (sym after)
     (subst (λ (x : OpenWrite). Explains c (next w k lost a s (effects_of turn) (record s { writes = after_move turn.ended id x s.writes }))) (sym same)
     (subst (λ (t : Move). Explains c (next w k lost a s (effects_of t) (record s { writes = after_move t.ended id (answered_write c n) s.writes }))) (sym is) told))
 
 pub ack_heard : (c : Setting) (w : Scene) (k : ℕ) (lost : Bool) (from : ℕ) (id : ReqId) (s s' : NodeState) (o : Effects) → Explains c w → slice_get w.nodes k ≡ Some s → (a : Act) → HasAll w from id
-    → HearsBody c (record { from = from; request = id }) WriteAck s o s' → Explains c (next w k lost a s o s')
+    → HearsBody c k (record { from = from; request = id }) WriteAck s o s' → Explains c (next w k lost a s o s')
 ack_heard c w k lost from id s s' o e at a has (turn, moves, is, same) =
     subst (λ (x : Effects). Explains c (next w k lost a s x s')) (sym is)
     (subst (λ (x : NodeState). Explains c (next w k lost a s (effects_of turn) x)) (sym same) (ack_taken c w k lost from a id s turn s'.writes (open_at s.writes id) e at has refl moves))
@@ -220,7 +180,7 @@ ack_heard c w k lost from id s s' o e at a has (turn, moves, is, same) =
 -- ---- a query comes
 
 pub read_heard : (c : Setting) (w : Scene) (k : ℕ) (lost : Bool) (from : ℕ) (id : ReqId) (q : Query) (s s' : NodeState) (o : Effects) → Explains c w → slice_get w.nodes k ≡ Some s → (a : Act) → WasBegun w.past id → IsQueryOf w.chronicle id q
-    → HearsBody c (record { from = from; request = id }) (Read q) s o s' → Explains c (next w k lost a s o s')
+    → HearsBody c k (record { from = from; request = id }) (Read q) s o s' → Explains c (next w k lost a s o s')
 read_heard c w k lost from id q s s' o e at a begun query (part, answer, is, same) =
     let sends = send_to id (ReadReply part) (from ∷ []) in
     let out = only_sends sends in
@@ -287,6 +247,7 @@ reply_waits c w k lost a id s r' e at ok =
         | inl there ↦ old.reads i o there
         | inr (here, same) ↦ subst (λ (x : ReqId). ReadOk w' k x o) (sym here) (subst (λ (x : OpenRead). ReadOk w' k id x) (sym same) (read_on c w w' g e k (λ l. l) id r' ok))
       ];
+      hints = old.hints;
     })
     (none_sent w' k))
 
@@ -323,7 +284,7 @@ reply_answers : (c : Setting) (w : Scene) (k : ℕ) (lost : Bool) (a : Act) (id 
 reply_answers c w k lost a id s n r' rows more losing e at ok enough shown =
     let r : NodeState = record s { reads = after_move true id r' s.reads } in
     let node : (v : Scene) → Grows w v → v.losing ≡ w.losing → NodeOk v k r =
-    λ v grows same. let old = node_later c w k s e at v grows same in record { of = old.of; writes = old.writes; reads = λ i o h. old.reads i o (in_left (is_at (request_cmp id)) s.reads (i, o) h) } in
+    λ v grows same. let old = node_later c w k s e at v grows same in record { of = old.of; writes = old.writes; reads = λ i o h. old.reads i o (in_left (is_at (request_cmp id)) s.reads (i, o) h); hints = old.hints } in
     reply_told c w k lost a id s r n rows more losing e at ok enough shown refl node
 
 reply_counted : (c : Setting) (w : Scene) (k : ℕ) (lost : Bool) (a : Act) (id : ReqId) (s : NodeState) (n r' : OpenRead) (turn : Move) (b : Bool) → w.losing ≡ loser lost k → Explains c w → slice_get w.nodes k ≡ Some s → ReadOk w k id n
@@ -346,13 +307,13 @@ reply_merged c w k lost from a id content s r r' turn false losing e at ok reply
 reply_taken : (c : Setting) (w : Scene) (k : ℕ) (lost : Bool) (from : ℕ) (a : Act) (id : ReqId) (content : List Held) (s : NodeState) (turn : Move) (xs' : List (ReqId × OpenRead)) (o : Option OpenRead) → w.losing ≡ loser lost k → Explains c w → slice_get w.nodes k ≡ Some s → ReplyOk w from id content
     → open_at s.reads id ≡ o → Takes (HearsReply c id from content) id s.reads o turn xs' → Explains c (next w k lost a s (effects_of turn) (record s { reads = xs' }))
 reply_taken c w k lost from a id content s turn xs' None losing e at reply found (is, same) =
-    subst (λ (t : Move). Explains c (next w k lost a s (effects_of t) (record s { reads = xs' }))) (sym is) (same_case c w k lost a s (record s { reads = xs' }) e at refl refl same)
+    subst (λ (t : Move). Explains c (next w k lost a s (effects_of t) (record s { reads = xs' }))) (sym is) (same_case c w k lost a s (record s { reads = xs' }) e at refl refl same refl)
 reply_taken c w k lost from a id content s turn xs' (Some r) losing e at reply found (r', step, after) =
     subst (λ (xs : List (ReqId × OpenRead)). Explains c (next w k lost a s (effects_of turn) (record s { reads = xs }))) (sym after)
     (reply_merged c w k lost from a id content s r r' turn (is_stray c from r) losing e at ((e.nodes k s at).reads id r (open_in s.reads id r found)) reply step)
 
 pub reply_heard : (c : Setting) (w : Scene) (k : ℕ) (lost : Bool) (from : ℕ) (id : ReqId) (content : List Held) (s s' : NodeState) (o : Effects) → w.losing ≡ loser lost k → Explains c w → slice_get w.nodes k ≡ Some s → (a : Act) → ReplyOk w from id content
-    → HearsBody c (record { from = from; request = id }) (ReadReply content) s o s' → Explains c (next w k lost a s o s')
+    → HearsBody c k (record { from = from; request = id }) (ReadReply content) s o s' → Explains c (next w k lost a s o s')
 reply_heard c w k lost from id content s s' o losing e at a reply (turn, moves, is, same) =
     subst (λ (x : Effects). Explains c (next w k lost a s x s')) (sym is)
     (subst (λ (x : NodeState). Explains c (next w k lost a s (effects_of turn) x)) (sym same) (reply_taken c w k lost from a id content s turn s'.reads (open_at s.reads id) losing e at reply refl moves))

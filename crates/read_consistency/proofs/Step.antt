@@ -1,21 +1,23 @@
 -- One move more: what was known is carried on, and what is new is known.
 use Rattle.std.proofs.Common.{◌≡◌, ◌≢◌, ℕ, inl, inr, Some, None, List, [], ◌∷◌, refl, sym, ap, subst, ◌∙◌, Contains}
-use Rattle.std.specs.Prelude.{slice_get, slice_set}
+use Rattle.std.specs.Prelude.{◌==◌, slice_get, slice_set}
+use Rattle.std.proofs.lemmas.Bool.{eq-eqb}
 use Rattle.changes.specs.declared.Partition.{Partition}
 use Rattle.changes.specs.declared.Held.{Held}
+use Rattle.row_change.specs.declared.entry.Hint.{Hint}
 use Rattle.peer_messages.specs.declared.chronicle.Entry.{Entry}
 use Rattle.peer_messages.specs.declared.outcome.Outbound.{Outbound}
 use Rattle.peer_messages.specs.declared.setting.Setting.{Setting}
-use Rattle.durable_state.specs.State.{Durable, change_of, changes_of, Holds, IsSameKept}
+use Rattle.durable_state.specs.State.{Durable, change_of, changes_of, hints_of, Holds, IsSameKept}
 use Rattle.node_steps.specs.State.{NodeState, durable_of, loaded}
 use Rattle.node_steps.specs.Effects.{Effects}
 use Rattle.node_steps.specs.Acts.{Act, Deed}
 use Rattle.cluster_runs.specs.Trace.{Scene, forgetting}
 use Rattle.cs_base.proofs.Slots.{get_set}
-use Rattle.cs_base.proofs.Members.{contains_nil, contains_cases, contains_there, contains_map, contains_from_map}
+use Rattle.cs_base.proofs.Members.{contains_nil, contains_cases, contains_there, contains_map, contains_from_map, contains_filter, contains_from_filter}
 use Rattle.read_consistency.specs.ReadRight.{IsRightEntry}
 use Rattle.read_consistency.proofs.Facts.{Reaches, BodyOk, NodeOk, EntryOk, Explains}
-use Rattle.read_consistency.proofs.Grows.{Grows, StaysLosing, of_on, body_on, node_on, entry_on, IsNew, submission_kept, start_kept, began_kept}
+use Rattle.read_consistency.proofs.Grows.{Grows, StaysLosing, of_on, body_on, hint_on, node_on, entry_on, IsNew, submission_kept, start_kept, began_kept}
 
 abbrev pub deed_of : ℕ → Act → NodeState → NodeState → Effects → Deed
 deed_of k a s s' o = record { node = k; act = a; before = s; after = s'; effects = o }
@@ -183,6 +185,12 @@ forgetting_grows w k s found at same = record {
   nodes = nodes_grow w.nodes k s (loaded found) at (reached_both (durable_of s) found same);
 }
 
+-- a hint stands among those of its peer
+kept_before : (d d' : Durable) → IsSameKept d d' → (x : Hint) → Contains d'.hints x → Contains d.hints x
+kept_before d d' same x h =
+    let mine : Contains (hints_of d'.hints x.peer) x = contains_filter (λ y. y.peer == x.peer) d'.hints x h (eq-eqb x.peer x.peer refl) in
+    (contains_from_filter (λ y. y.peer == x.peer) d.hints x (subst (λ (xs : List Hint). Contains xs x) (same.hints x.peer) mine)).0
+
 -- what a node holds it holds on, and its open requests are gone
 pub explains_forgetting : (c : Setting) (w : Scene) (k : ℕ) (s : NodeState) (found : Durable) → Explains c w → w.losing ≡ Some k → slice_get w.nodes k ≡ Some s → IsSameKept (durable_of s) found → Explains c (forgetting w k found)
 explains_forgetting c w k s found e losing at same =
@@ -194,6 +202,7 @@ explains_forgetting c w k s found e losing at same =
         of = λ p x h. of_on w w' g p _ _ x (λ y r. reached_both (durable_of s) found same p y r) (old.of p x ((held_both (durable_of s) found same p x).1 h));
         writes = λ id o h. absurd (contains_nil _ h);
         reads = λ id o h. absurd (contains_nil _ h);
+        hints = λ x h. hint_on w w' g k x (old.hints x (kept_before (durable_of s) found same x h));
       });
       bodies = λ d there x sent. body_on c w w' g e d.node x (e.bodies d there x sent);
       entries = λ x h. entry_on c w w' g x (e.entries x h);

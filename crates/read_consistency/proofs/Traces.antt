@@ -3,13 +3,13 @@ use Rattle.std.proofs.Common.{◌≡◌, ℕ, Bool, true, false, Some, ◌∷◌
 use Rattle.std.specs.Prelude.{slice_get, slice_set, length, MatchBool}
 use Rattle.cs_base.specs.declared.ids.ReqId.{ReqId}
 use Rattle.peer_messages.specs.declared.message.Body.{Body}
-use Rattle.peer_messages.specs.declared.message.Body.TheVariants.{Write, WriteAck, Read, ReadReply}
+use Rattle.peer_messages.specs.declared.message.Body.TheVariants.{Write, WriteAck, Read, ReadReply, Hint, HintAck}
 use Rattle.peer_messages.specs.declared.chronicle.Entry.{Entry}
 use Rattle.peer_messages.specs.declared.setting.Setting.{Setting}
 use Rattle.node_steps.specs.State.{NodeState, fresh_node}
 use Rattle.node_steps.specs.Effects.{Effects, nothing}
 use Rattle.node_steps.specs.Requests.{refusal_of}
-use Rattle.node_steps.specs.Acts.{Act, Rises, Hears, Asks, Marks, Incoming, Deed, Does, HearsBody, request_at, is_old, asker_of}
+use Rattle.node_steps.specs.Acts.{Act, Rises, Hears, Asks, Marks, DeadlineComes, HintExpires, Incoming, Deed, Does, HearsBody, request_at, is_old, asker_of}
 use Rattle.cluster_runs.specs.World.{World}
 use Rattle.cluster_runs.specs.Run.{Run}
 use Rattle.cluster_runs.specs.Trace.{Scene, scene_of, first_scene, WasMade, MayTake, AreTold, loser, Move, Trace, IsFree}
@@ -21,19 +21,22 @@ use Rattle.cs_base.proofs.Members.{contains_nil}
 use Rattle.read_consistency.specs.ReadRight.{ReadRight}
 use Rattle.read_consistency.proofs.Facts.{WasBegun, BodyIs, NodeOk, Explains}
 use Rattle.read_consistency.proofs.Step.{explains_entry, explains_waking, explains_forgetting}
-use Rattle.read_consistency.proofs.Cases.{next, rises_case, marks_case, unheard_case, asks_case}
-use Rattle.read_consistency.proofs.Hearing.{known, write_heard, ack_heard, read_heard, reply_heard}
+use Rattle.read_consistency.proofs.Cases.{next, rises_case, unheard_case, asks_case}
+use Rattle.read_consistency.proofs.Hearing.{known, taken_in, ack_heard, read_heard, reply_heard}
+use Rattle.read_consistency.proofs.Hinting.{marks_case, hint_acked_case, expires_case, deadline_case}
 
 body_case : (c : Setting) (w : Scene) (k : ℕ) (lost : Bool) (from : ℕ) (id : ReqId) (b : Body) (a : Act) (s s' : NodeState) (o : Effects) → w.losing ≡ loser lost k → Explains c w → slice_get w.nodes k ≡ Some s → WasBegun w.past id → BodyIs w from id b
-    → HearsBody c (record { from = from; request = id }) b s o s' → Explains c (next w k lost a s o s')
-body_case c w k lost from id (Write m) a s s' o losing e at was is h = write_heard c w k lost from id m s s' o e at a was is h
+    → HearsBody c k (record { from = from; request = id }) b s o s' → Explains c (next w k lost a s o s')
+body_case c w k lost from id (Write m) a s s' o losing e at was is h = taken_in c w k lost from id m WriteAck s s' o e at a was is (λ v has. has) h
 body_case c w k lost from id WriteAck a s s' o losing e at was is h = ack_heard c w k lost from id s s' o e at a is h
 body_case c w k lost from id (Read q) a s s' o losing e at was is h = read_heard c w k lost from id q s s' o e at a was is h
 body_case c w k lost from id (ReadReply content) a s s' o losing e at was is h = reply_heard c w k lost from id content s s' o losing e at a is h
+body_case c w k lost from id (Hint number m) a s s' o losing e at was is h = taken_in c w k lost from id m (HintAck number) s s' o e at a was is (λ v has. tt) h
+body_case c w k lost from id (HintAck number) a s s' o losing e at was is h = hint_acked_case c w k lost from id number s s' o e at a h
 
 -- a body that is too old is not heard
 heard_case : (c : Setting) (w : Scene) (k : ℕ) (lost : Bool) (m : Incoming) (old : Bool) (s s' : NodeState) (o : Effects) → w.losing ≡ loser lost k → Explains c w → slice_get w.nodes k ≡ Some s → WasMade w.past k m
-    → MatchBool old ((o ≡ nothing) × (s' ≡ s)) (HearsBody c (asker_of m) m.body s o s') → Explains c (next w k lost (Hears m) s o s')
+    → MatchBool old ((o ≡ nothing) × (s' ≡ s)) (HearsBody c k (asker_of m) m.body s o s') → Explains c (next w k lost (Hears m) s o s')
 heard_case c w k lost m true s s' o losing e at made (is, same) = unheard_case c w k lost (Hears m) s s' o e at is same
 heard_case c w k lost m false s s' o losing e at made h = let was = known c w k m e made in body_case c w k lost m.from m.request m.body (Hears m) s s' o losing e at was.begun was.is h
 
@@ -43,12 +46,15 @@ move_case c w k lost (Rises t) s s' o losing e at may told h = rises_case c w k 
 move_case c w k lost (Hears m) s s' o losing e at may told h = heard_case c w k lost m (is_old c s.risen m.born) s s' o losing e at may h
 move_case c w k lost (Asks ask) s s' o losing e at may told h = asks_case c w k lost ask (refusal_of c s (request_at k s.risen) ask.plan ask.level) s s' o e at may losing told h
 move_case c w k lost (Marks peer up) s s' o losing e at may told h = marks_case c w k lost peer up s s' o e at h
+move_case c w k lost (DeadlineComes id) s s' o losing e at may told h = deadline_case c w k lost id s s' o e at h
+move_case c w k lost (HintExpires peer number) s s' o losing e at may told h = expires_case c w k lost peer number s s' o e at h
 
 fresh_ok : (w : Scene) (k : ℕ) → NodeOk w k fresh_node
 fresh_ok w k = record {
   of = λ p x h. absurd (contains_nil _ h);
   writes = λ id o h. absurd (contains_nil _ h);
   reads = λ id o h. absurd (contains_nil _ h);
+  hints = λ x h. absurd (contains_nil _ h);
 }
 
 free_case : (c : Setting) (w : Scene) (e : Entry) → Explains c w → IsFree w.past e → Explains c (record w { chronicle = e ∷ w.chronicle })

@@ -1,6 +1,6 @@
 -- What comes of a reply: nothing, one reply more, or an answer.
 use Rattle.std.proofs.Common.{◌≡◌, ℕ, Bool, true, false, ◌||◌, refl, sym, ap, ◌∙◌, subst, List, [], ◌∷◌, ◌++◌, map, Contains}
-use Rattle.std.specs.Prelude.{MatchBool, nat_lt, not}
+use Rattle.std.specs.Prelude.{MatchBool, nat_lt, not, ◌&&◌}
 use Rattle.std.proofs.lemmas.List.{map-append}
 use Rattle.cs_base.specs.declared.ids.ReqId.{ReqId}
 use Rattle.cs_base.specs.Quorums.{is_in, heard_of}
@@ -14,7 +14,7 @@ use Rattle.peer_messages.specs.Settings.{replicas_of, needed}
 use Rattle.peer_messages.specs.Moves.{quiet, tells}
 use Rattle.node_steps.specs.State.{OpenRead}
 use Rattle.node_steps.specs.Reads.{is_stray, heard_by, replied_from, replies_of, read_needs, TellsRows, IsMergedInOrder, MergesReply, HearsReply}
-use Rattle.read_coord.specs.Keeping.{replies_with, Keeps, Answers}
+use Rattle.read_coord.specs.Keeping.{replies_with, Keeps, Answers, is_last}
 
 when_true : (b : Bool) (P Q : Type 0) → b ≡ true → P → MatchBool b P Q
 when_true b P Q test p = subst (λ (v : Bool). MatchBool v P Q) (sym test) p
@@ -67,3 +67,27 @@ reply_answers c id from content r next turn replicas are stray enough answers =
     let kept : OpenRead = record r { replies = replies_with r from content; merged = answers.0 } in
     when_false (is_stray c from r) ((turn ≡ quiet) × (next ≡ r)) (MergesReply c id from content r turn next) (strays c from r replicas false are stray)
     (kept, refl, answers.1, when_false (nat_lt (replies_of c kept) (read_needs c kept)) ((turn ≡ quiet) × (next ≡ kept)) (TellsRows id kept turn) (counts c from content answers.0 r replicas false are enough) answers.2)
+
+-- ---- the last reply that a read waits for
+
+neither : (a b : Bool) → (not a && not b) ≡ true → (a ≡ false) × (b ≡ false)
+neither true b h = absurd (cc)
+neither false true h = absurd (cc)
+neither false false h = (refl, refl)
+
+pub last_by : (c : Setting) (from : ℕ) (r : OpenRead) (replicas : List ℕ) (a b : Bool) → replicas ≡ replicas_of c r.query.partition
+    → a ≡ (is_in (heard_by r) from || not (is_in replicas from)) → b ≡ nat_lt (heard_of replicas (heard_by r ++ from ∷ [])) (needed c r.level r.query.partition)
+    → (not a && not b) ≡ is_last c from r
+last_by c from r replicas a b are stray few =
+    ap (λ (x : Bool). not x && not b) (stray ∙ ap (λ (ks : List ℕ). is_in (heard_by r) from || not (is_in ks from)) are)
+    ∙ ap (λ (x : Bool). not (is_stray c from r) && not x) (few ∙ ap (λ (ks : List ℕ). nat_lt (heard_of ks (heard_by r ++ from ∷ [])) (needed c r.level r.query.partition)) are)
+
+pub last_answers : (c : Setting) (id : ReqId) (from : ℕ) (content : List Held) (r : OpenRead) (turn : Move) → Answers id from content r turn → is_last c from r ≡ true → HearsReply c id from content r turn r
+last_answers c id from content r turn answers last =
+    let both = neither (is_stray c from r) (nat_lt (heard_of (replicas_of c r.query.partition) (heard_by r ++ from ∷ [])) (read_needs c r)) last in
+    reply_answers c id from content r r turn (replicas_of c r.query.partition) refl both.0 both.1 answers
+
+pub answers_end : (id : ReqId) (from : ℕ) (content : List Held) (r : OpenRead) (turn : Move) → Answers id from content r turn → turn.ended ≡ true
+answers_end id from content r turn answers =
+    let told = answers.2 in
+    ap (λ (m : Move). m.ended) told.3

@@ -3,10 +3,12 @@
 //! After Cassandra's documentation, "Dynamo: Tunable Consistency".
 #![tactic(auto)]
 
-ghost use Rattle.std.specs.Prelude.{◌≡◌, ◌||◌, ◌∷◌, ◌++◌, [], not, nat_lt, map, IsTrue, IfOk, OnOk, OnErr};
+ghost use Rattle.std.specs.Prelude.{◌≡◌, ◌||◌, ◌∷◌, ◌++◌, [], true, not, nat_lt, map, IsTrue, IfOk, OnOk, OnErr};
 ghost use Rattle.cs_base.specs.Quorums.{is_in as is_in_of, heard_of as heard_of_count};
 ghost use Rattle.peer_messages.specs.Settings.{up_of, replicas_of, needed};
 ghost use Rattle.peer_messages.specs.declared.message.Body.TheVariants.{Read};
+ghost use Rattle.peer_messages.specs.declared.setting.Setting.{Setting as setting_value};
+ghost use Rattle.peer_messages.specs.Moves.{tells as tells_of};
 ghost use Rattle.node_steps.specs.Effects.{outbound, send_to};
 ghost use Rattle.read_coord.specs.Keeping.{is_among};
 ghost use Rattle.node_steps.specs.Reads.{start_read, started_read, heard_by, replied_from, IsMergedInOrder, HearsReply, read_at};
@@ -112,21 +114,32 @@ fn ask_all(
 ) -> Result<Sends, AllocError>
     ensures { IfOk result (λ sends. sends ≡ send_to request (Read query.now) (up_of down.now nodes.now)) }
 {
-    let mut sends = Items::new(alloc);
+    let mut sends = Vec::with_capacity(alloc, nodes.len())?;
     for node in nodes {
         if !is_in(down, *node) {
             sends.push(ask(alloc, request, query, *node)?)?;
         }
     }
-    Ok(sends)
+    Ok(Items::from_vec(sends))
 }
 
 fn entered(alloc: Global, entry: Entry) -> Result<Entries, AllocError>
     ensures { IfOk result (λ entries. entries ≡ entry ∷ []) }
 {
-    let mut entries = Items::new(alloc);
+    let mut entries = Vec::with_capacity(alloc, 1)?;
     entries.push(entry)?;
-    Ok(entries)
+    Ok(Items::from_vec(entries))
+}
+
+/// The entry is made, and the read is done with.
+fn tells(alloc: Global, entry: Entry) -> Result<Move, AllocError>
+    ensures { IfOk result (λ turn. turn ≡ tells_of entry) }
+{
+    Ok(Move {
+        sends: Items::new(alloc),
+        entries: entered(alloc, entry)?,
+        ended: true,
+    })
 }
 
 /// Whether the node is among those that replied.
@@ -178,7 +191,7 @@ pub fn opening(
 }
 
 impl ReadCoord {
-    ghost use Rattle.read_coord.specs.Keeping.{replies_with, Keeps, Answers};
+    ghost use Rattle.read_coord.specs.Keeping.{replies_with, Keeps, Answers, is_last as is_last_of};
 
     /// The read as it begins, with its [`opening`]: no replica has replied.
     pub fn start(alloc: Global, level: Level, query: &Query) -> Result<ReadCoord, AllocError>
@@ -275,7 +288,7 @@ impl ReadCoord {
         let merged = self.merged_with(alloc, content)?;
         let (rows, more) = shown(alloc, &merged, &self.query)?;
         let heard = self.heard_with(alloc, from)?;
-        Move::tells(
+        tells(
             alloc,
             Entry::Rows(request, rows, more, Grounds { heard, merged }),
         )
@@ -366,6 +379,28 @@ impl ReadCoord {
         self.answer(alloc, request, from, content)
     }
 
+    /// Whether a reply of the node is the last that the read waits for, so that it is answered and done with.
+    pub fn is_last(&self, setting: &Setting, from: NodeId) -> bool
+        ensures { result ≡ is_last_of setting.now from self.now }
+    {
+        let replicas = setting.replicas(&self.query.partition);
+        !self.is_stray(replicas.as_slice(), from) && !self.waits(setting, replicas.as_slice(), from)
+    }
+
+    /// What comes of the last reply that the read waits for.
+    pub fn on_last(
+        &self,
+        alloc: Global,
+        request: ReqId,
+        from: NodeId,
+        content: Content,
+    ) -> Result<Move, AllocError>
+        ensures hears { IfOk result (λ turn. (c : setting_value) → is_last_of c from self.now ≡ true → HearsReply c request from content self.now turn self.now) }
+        ensures ended { IfOk result (λ turn. turn.ended ≡ true) }
+    {
+        self.answer(alloc, request, from, content)
+    }
+
     /// Takes a node's reply to the request. That of a node that is no replica, and a repeated one, count for nothing.
     /// A read that is answered is done with, and an error leaves it as it was.
     pub fn on_reply(
@@ -416,6 +451,6 @@ impl ReadCoord {
             blockfor,
             data: received > 0,
         };
-        Move::tells(alloc, Entry::Refused(request, refusal))
+        tells(alloc, Entry::Refused(request, refusal))
     }
 }

@@ -11,6 +11,8 @@ ghost use Rattle.changes.specs.Queries.{MeetsBounds};
 ghost use Rattle.cs_store.specs.Disk.{IsSettled, SameFiles};
 ghost use Rattle.cs_store.specs.Faults.{HasCause};
 ghost use Rattle.cs_store.specs.Images.{formatted_bytes};
+ghost use Rattle.stored_changes.specs.Spelling.{MutationFits};
+ghost use Rattle.row_change.specs.declared.entry.Hint.{Hint as hint};
 ghost use Rattle.row_change.specs.declared.entry.LogEntry.{LogEntry as entry_value};
 ghost use Rattle.row_change.specs.Spelling.{EntryFits};
 ghost use Rattle.durable_state.specs.State.{Durable, IsSameKept, Holds, changes_of, formatted};
@@ -86,6 +88,7 @@ pub trait Replica: Drop {
         ensures durable { IfOk result (λ r. Self.Disk.is_honest → stands_for (Self.Disk.disk store).seen (durable r.0)) }
         ensures kept { IfOk result (λ r. Self.Disk.is_honest → IsKeptOf (durable r.0) r.1) }
         ensures in_order { IfOk result (λ r. IsInOrder r.1) }
+        ensures hints_fit { IfOk result (λ r. (h : hint) → Contains r.1.hints h → MutationFits h.mutation) }
         ensures whole { IfOk result (λ r. is_whole r.0) }
         ensures no_flush { IfOk result (λ r. since_flush r.0 ≡ None) }
         ensures no_merge { IfOk result (λ r. (job : merge_job) → is_merging r.0 job → ⊥) }

@@ -1,6 +1,6 @@
 //! Items, in the order of their kinds.
 
-ghost use Rattle.std.specs.Prelude.{◌≡◌, ◌++◌, List, OnOk};
+ghost use Rattle.std.specs.Prelude.{◌≡◌, ◌++◌, List, [], IfOk, OnOk};
 ghost use Rattle.std.specs.List.{AllByRecursion, flat_map};
 ghost use Rattle.stored_fields.specs.Reading.{Gives};
 ghost use Rattle.row_change.specs.Reading.{counted_items_at, data_item_at, gone_item_at, hint_at, item_at, item_fields_of, kind_in, mark_at, paxos_item_at, purge_item_at};
@@ -16,6 +16,9 @@ use stored_changes::{
     read_change, read_mutation, read_partition, write_change, write_mutation, write_partition,
 };
 use stored_fields::{Fault, Reader, write_i64, write_node, write_u8, write_u64};
+
+/// For how many items there is room before any is read. The count alone, which no byte behind it bears out yet, takes no more.
+const FIRST_ROOM: usize = 4;
 
 #[tactic(auto, unfolding(crate::specs::Reading::hint_at))]
 fn read_hint(alloc: Global, reader: &mut Reader<'_>) -> Result<Hint, Fault>
@@ -129,7 +132,14 @@ fn read_item(alloc: Global, before: u8, reader: &mut Reader<'_>) -> Result<LogIt
     read_fields(alloc, left, kind, reader)
 }
 
-/// So many items in the order of their kinds. What was read makes the room, and not the count.
+/// Room for the first of so many items: mostly an entry has one.
+fn make_room(alloc: Global, count: u32) -> Result<Vec<LogItem>, AllocError>
+    ensures { IfOk result (λ room. room.items ≡ []) }
+{
+    Vec::with_capacity(alloc, (count as usize).min(FIRST_ROOM))
+}
+
+/// So many items in the order of their kinds.
 pub(crate) fn read_items(
     alloc: Global,
     count: u32,
@@ -137,7 +147,7 @@ pub(crate) fn read_items(
 ) -> Result<Items<LogItem>, Fault>
     ensures { Gives (λ items. (items, reader.new.rest.now)) result (counted_items_at count reader.old.rest.now) }
 {
-    let mut items = Vec::new(alloc);
+    let mut items = make_room(alloc, count)?;
     let mut before = 0;
     for _ in 0..count {
         let item = read_item(alloc, before, reader)?;

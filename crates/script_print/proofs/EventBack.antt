@@ -1,5 +1,5 @@
 -- The line of an event is read as the event.
-use Rattle.std.proofs.Common.{◌≡◌, ℕ, ◌+◌, ◌-◌, ◌^◌, ◌<◌, ◌≤◌, Bool, true, false, not, List, [], ◌∷◌, ◌++◌, Option, Some, None, Ok, length, take, drop, refl, ◌∙◌, ap, arith, eqb, IsUtf8, length-append}
+use Rattle.std.proofs.Common.{◌≡◌, ℕ, ◌+◌, ◌-◌, ◌^◌, ◌<◌, ◌≤◌, Bool, true, false, not, cond, List, [], ◌∷◌, ◌++◌, Option, Some, None, Ok, length, take, drop, refl, ◌∙◌, ap, arith, eqb, IsUtf8, length-append}
 use Rattle.std.specs.Prelude.{ℤ, ◌&&◌, codes, nat_lt}
 use Rattle.std.specs.Option.{option_map}
 use Rattle.std.specs.List.{position_or_len, before_first, after_first}
@@ -12,19 +12,21 @@ use Rattle.cs_store.specs.declared.mem_file.Outcome.{Outcome}
 use Rattle.cs_store.specs.declared.mem_file.Outcome.TheVariants.{Kept, Lost, Torn}
 use Rattle.fault_script.specs.declared.script.ScriptEvent.{ScriptEvent}
 use Rattle.fault_script.specs.declared.script.ScriptEvent.TheVariants as event
+use Rattle.fault_script.specs.declared.script.EventLine.{EventLine}
+use Rattle.fault_script.specs.declared.script.EventLine.TheVariants as asks
 use Rattle.fault_script.specs.declared.script.PutRequest.{PutRequest}
 use Rattle.fault_script.specs.declared.script.GetRequest.{GetRequest}
 use Rattle.fault_script.specs.declared.script.CqlRequest.{CqlRequest}
 use Rattle.fault_script.specs.declared.script.MessagePlace.{MessagePlace}
 use Rattle.fault_script.specs.declared.script.Fault.TheVariants as fault
 use Rattle.fault_script.specs.Lines as lines
-use Rattle.fault_script.specs.Lines.{understood, result_map, event_of_words, event_at, event_line, put_of, get_of, place_of, named_node, pair_of, named_pair, clock_at, crash_of, stop_of, fail_at, outcome_of, cql_of, cql_from, cql_behind, words_of, behind, first_word, node_of, level_of, long_of, number_within, is_number, is_signed_number, is_long, is_long_word, signed_value, is_text, is_space, is_skipped, without_spaces}
-use Rattle.script_print.specs.Printed.{level_name, outcome_name, line_of_words, put_line, get_line, cql_line, message_line, number_line, pair_line, crash_line, stop_line}
+use Rattle.fault_script.specs.Lines.{understood, result_map, event_of_words, event_at, event_line, put_of, get_of, place_of, named_node, pair_of, named_pair, clock_at, peers_of, named_peers, mark_of, up_of, crash_of, stop_of, fail_at, outcome_of, cql_of, cql_from, cql_behind, words_of, behind, first_word, node_of, level_of, long_of, number_within, is_number, is_signed_number, is_long, is_long_word, signed_value, is_text, is_space, is_skipped, without_spaces}
+use Rattle.script_print.specs.Printed.{level_name, outcome_name, up_name, line_of_words, put_line, get_line, cql_line, message_line, number_line, pair_line, mark_line, crash_line, stop_line}
 use Rattle.script_print.specs.Printed as printed
 use Rattle.script_print.proofs.Bytes.{lacks, lacks_both, ascii_is_utf8, utf8_is_text}
 use Rattle.script_print.proofs.LineWords.{IsWord, AreWords, words_back, line_is_inline}
 use Rattle.script_print.proofs.NumberWords.{IsWithin, decimal_is_word, decimal_is_number, within_back, signed_is_word, signed_is_number, signed_back, level_is_word, level_back, plain_word}
-use Rattle.script_print.proofs.EventFacts.{IsNode, IsFitPut, IsFitGet, IsFitCql, IsFitPlace, IsFitPair, IsFitEvent}
+use Rattle.script_print.proofs.EventFacts.{IsNode, IsFitPut, IsFitGet, IsFitCql, IsFitPlace, IsFitPair, IsFitMark, IsFitEvent}
 
 -- ---- words
 
@@ -44,9 +46,26 @@ long_back : (z : ℤ) → is_long z ≡ true → long_of (signed_decimal z) ≡ 
 long_back z long =
     cond-true (is_long_word (signed_decimal z)) (Some (signed_value (signed_decimal z))) None (ap is_long (signed_back z long) ∙ long) ∙ ap (λ (y : ℤ). Some y) (signed_back z long)
 
+-- what the line of an event says
+abbrev pub line_of : ScriptEvent → EventLine
+line_of (event.Put put) = asks.Event (event.Put put)
+line_of (event.Get get) = asks.Event (event.Get get)
+line_of (event.Cql request) = asks.Cql request.node request.level request.text
+line_of (event.Deliver place) = asks.Event (event.Deliver place)
+line_of (event.Drop place) = asks.Event (event.Drop place)
+line_of (event.Settle count) = asks.Event (event.Settle count)
+line_of (event.Clock node micros) = asks.Event (event.Clock node micros)
+line_of (event.Mark node peer up) = asks.Event (event.Mark node peer up)
+line_of (event.Crash node outcome) = asks.Event (event.Crash node outcome)
+line_of (event.StopAt node call outcome) = asks.Event (event.StopAt node call outcome)
+line_of (event.FailAt node call) = asks.Event (event.FailAt node call)
+line_of (event.Restart node) = asks.Event (event.Restart node)
+line_of (event.Flush node) = asks.Event (event.Flush node)
+line_of (event.Merge node) = asks.Event (event.Merge node)
+
 -- the line of an event: it is read as the event, has no line feed and is not passed over
 pub record IsLineOf (nodes : ℕ) (line : List ℕ) (said : ScriptEvent) : Type 0 where
-  pub says : event_at nodes line ≡ Ok said
+  pub says : event_at nodes line ≡ Ok (line_of said)
   pub inline : lacks 10 line ≡ true
   pub read : is_skipped line ≡ false
 
@@ -61,11 +80,11 @@ put_back nodes put few is =
     let word : IsWord (codes "put") = plain_word (codes "put") refl in
     let are : AreWords words = (node_is_word nodes put.node few is.node, (level_is_word put.level, (is.key, (is.row, (signed_is_word put.timestamp is.timestamp, (is.value, tt)))))) in
     record {
-      says = ap (event_of_words nodes) (words_back (codes "put") words word are)
+      says = ap (result_map asks.Event) (ap (event_of_words nodes) (words_back (codes "put") words word are)
           ∙ ap (λ (t : Bool). understood fault.Line t (put_of (node_of nodes node) (level_of level) put.key put.row (long_of timestamp) put.value)) (and_from (is_number node) (is_signed_number timestamp) (node_is_number nodes put.node few is.node) (signed_is_number put.timestamp is.timestamp))
           ∙ ap (λ (n : Option ℕ). understood fault.Line true (put_of n (level_of level) put.key put.row (long_of timestamp) put.value)) (node_back nodes put.node few is.node)
           ∙ ap (λ (l : Option Level). understood fault.Line true (put_of (Some put.node) l put.key put.row (long_of timestamp) put.value)) (level_back put.level)
-          ∙ ap (λ (z : Option ℤ). understood fault.Line true (put_of (Some put.node) (Some put.level) put.key put.row z put.value)) (long_back put.timestamp is.timestamp);
+          ∙ ap (λ (z : Option ℤ). understood fault.Line true (put_of (Some put.node) (Some put.level) put.key put.row z put.value)) (long_back put.timestamp is.timestamp));
       inline = line_is_inline (codes "put") words word are;
       read = refl;
     }
@@ -78,10 +97,10 @@ get_back nodes get few is =
     let word : IsWord (codes "get") = plain_word (codes "get") refl in
     let are : AreWords words = (node_is_word nodes get.node few is.node, (level_is_word get.level, (is.key, tt))) in
     record {
-      says = ap (event_of_words nodes) (words_back (codes "get") words word are)
+      says = ap (result_map asks.Event) (ap (event_of_words nodes) (words_back (codes "get") words word are)
           ∙ ap (λ (t : Bool). understood fault.Line t (get_of (node_of nodes node) (level_of level) get.key)) (node_is_number nodes get.node few is.node)
           ∙ ap (λ (n : Option ℕ). understood fault.Line true (get_of n (level_of level) get.key)) (node_back nodes get.node few is.node)
-          ∙ ap (λ (l : Option Level). understood fault.Line true (get_of (Some get.node) l get.key)) (level_back get.level);
+          ∙ ap (λ (l : Option Level). understood fault.Line true (get_of (Some get.node) l get.key)) (level_back get.level));
       inline = line_is_inline (codes "get") words word are;
       read = refl;
     }
@@ -113,7 +132,7 @@ deliver_back nodes place few is =
     let word : IsWord (codes "deliver") = plain_word (codes "deliver") refl in
     let are = message_are_words nodes place few is in
     record {
-      says = ap (event_of_words nodes) (words_back (codes "deliver") words word are) ∙ ap (result_map event.Deliver) (message_back nodes place few is);
+      says = ap (result_map asks.Event) (ap (event_of_words nodes) (words_back (codes "deliver") words word are) ∙ ap (result_map event.Deliver) (message_back nodes place few is));
       inline = line_is_inline (codes "deliver") words word are;
       read = refl;
     }
@@ -124,7 +143,7 @@ drop_back nodes place few is =
     let word : IsWord (codes "drop") = plain_word (codes "drop") refl in
     let are = message_are_words nodes place few is in
     record {
-      says = ap (event_of_words nodes) (words_back (codes "drop") words word are) ∙ ap (result_map event.Drop) (message_back nodes place few is);
+      says = ap (result_map asks.Event) (ap (event_of_words nodes) (words_back (codes "drop") words word are) ∙ ap (result_map event.Drop) (message_back nodes place few is));
       inline = line_is_inline (codes "drop") words word are;
       read = refl;
     }
@@ -136,9 +155,9 @@ settle_back nodes count is most =
     let word : IsWord (codes "settle") = plain_word (codes "settle") refl in
     let are : AreWords words = (decimal_is_word count small, tt) in
     record {
-      says = ap (event_of_words nodes) (words_back (codes "settle") words word are)
+      says = ap (result_map asks.Event) (ap (event_of_words nodes) (words_back (codes "settle") words word are)
           ∙ ap (λ (t : Bool). understood fault.Line t (option_map event.Settle (number_within 1 100000 (decimal count)))) (decimal_is_number count small)
-          ∙ ap (λ (n : Option ℕ). understood fault.Line true (option_map event.Settle n)) (within_back 1 100000 count small is);
+          ∙ ap (λ (n : Option ℕ). understood fault.Line true (option_map event.Settle n)) (within_back 1 100000 count small is));
       inline = line_is_inline (codes "settle") words word are;
       read = refl;
     }
@@ -181,7 +200,7 @@ clock_back nodes node micros few is =
     let word : IsWord (codes "clock") = plain_word (codes "clock") refl in
     let are = pair_are_words nodes 0 (2 ^ 64 - 1) node micros few small is in
     record {
-      says = ap (event_of_words nodes) (words_back (codes "clock") words word are) ∙ ap (result_map clock_at) (named_pair_back nodes 0 (2 ^ 64 - 1) node micros few small is);
+      says = ap (result_map asks.Event) (ap (event_of_words nodes) (words_back (codes "clock") words word are) ∙ ap (result_map clock_at) (named_pair_back nodes 0 (2 ^ 64 - 1) node micros few small is));
       inline = line_is_inline (codes "clock") words word are;
       read = refl;
     }
@@ -193,8 +212,37 @@ fail_back nodes node call few is =
     let word : IsWord (codes "failat") = plain_word (codes "failat") refl in
     let are = pair_are_words nodes 1 4294967295 node call few small is in
     record {
-      says = ap (event_of_words nodes) (words_back (codes "failat") words word are) ∙ ap (result_map fail_at) (named_pair_back nodes 1 4294967295 node call few small is);
+      says = ap (result_map asks.Event) (ap (event_of_words nodes) (words_back (codes "failat") words word are) ∙ ap (result_map fail_at) (named_pair_back nodes 1 4294967295 node call few small is));
       inline = line_is_inline (codes "failat") words word are;
+      read = refl;
+    }
+
+up_back : (up : Bool) → up_of (up_name up) ≡ Some up
+up_back true = refl
+up_back false = refl
+
+up_is_word : (up : Bool) → IsWord (up_name up)
+up_is_word true = plain_word (codes "up") refl
+up_is_word false = plain_word (codes "down") refl
+
+named_peers_back : (nodes node peer : ℕ) → nodes ≤ 7 → IsFitMark nodes node peer → named_peers nodes (decimal node) (decimal peer) ≡ Ok (node, peer)
+named_peers_back nodes node peer few is =
+    ap (λ (t : Bool). understood fault.Line t (peers_of (node_of nodes (decimal node)) (node_of nodes (decimal peer))))
+    (and_from (is_number (decimal node)) (is_number (decimal peer)) (node_is_number nodes node few is.at) (node_is_number nodes peer few is.other))
+    ∙ ap (λ (n : Option ℕ). understood fault.Line true (peers_of n (node_of nodes (decimal peer)))) (node_back nodes node few is.at)
+    ∙ ap (λ (n : Option ℕ). understood fault.Line true (peers_of (Some node) n)) (node_back nodes peer few is.other)
+    ∙ ap (λ (t : Bool). understood {T = ℕ × ℕ} fault.Line true (cond t None (Some (node, peer)))) is.apart
+
+mark_back : (nodes node peer : ℕ) (up : Bool) → nodes ≤ 7 → IsFitMark nodes node peer → IsLineOf nodes (mark_line node peer up) (event.Mark node peer up)
+mark_back nodes node peer up few is =
+    let words : List (List ℕ) = decimal node ∷ decimal peer ∷ up_name up ∷ [] in
+    let word : IsWord (codes "mark") = plain_word (codes "mark") refl in
+    let are : AreWords words = (node_is_word nodes node few is.at, (node_is_word nodes peer few is.other, (up_is_word up, tt))) in
+    record {
+      says = ap (result_map asks.Event) (ap (event_of_words nodes) (words_back (codes "mark") words word are)
+          ∙ ap (λ (o : Option Bool). mark_of o (named_peers nodes (decimal node) (decimal peer))) (up_back up)
+          ∙ ap (mark_of (Some up)) (named_peers_back nodes node peer few is));
+      inline = line_is_inline (codes "mark") words word are;
       read = refl;
     }
 
@@ -204,9 +252,9 @@ crash_back nodes node outcome few is =
     let word : IsWord (codes "crash") = plain_word (codes "crash") refl in
     let are : AreWords words = (node_is_word nodes node few is, (outcome_is_word outcome, tt)) in
     record {
-      says = ap (event_of_words nodes) (words_back (codes "crash") words word are)
+      says = ap (result_map asks.Event) (ap (event_of_words nodes) (words_back (codes "crash") words word are)
           ∙ ap (λ (o : Option Outcome). crash_of o (named_node nodes (decimal node))) (outcome_back outcome)
-          ∙ ap (crash_of (Some outcome)) (named_node_back nodes node few is);
+          ∙ ap (crash_of (Some outcome)) (named_node_back nodes node few is));
       inline = line_is_inline (codes "crash") words word are;
       read = refl;
     }
@@ -218,9 +266,9 @@ stop_back nodes node call outcome few is =
     let word : IsWord (codes "stopat") = plain_word (codes "stopat") refl in
     let are : AreWords words = (node_is_word nodes node few is.at, (decimal_is_word call (pair_is_small 4294967295 call small is.bounds.1), (outcome_is_word outcome, tt))) in
     record {
-      says = ap (event_of_words nodes) (words_back (codes "stopat") words word are)
+      says = ap (result_map asks.Event) (ap (event_of_words nodes) (words_back (codes "stopat") words word are)
           ∙ ap (λ (o : Option Outcome). stop_of o (named_pair nodes 1 4294967295 (decimal node) (decimal call))) (outcome_back outcome)
-          ∙ ap (stop_of (Some outcome)) (named_pair_back nodes 1 4294967295 node call few small is);
+          ∙ ap (stop_of (Some outcome)) (named_pair_back nodes 1 4294967295 node call few small is));
       inline = line_is_inline (codes "stopat") words word are;
       read = refl;
     }
@@ -233,7 +281,7 @@ restart_back nodes node few is =
     let word : IsWord (codes "restart") = plain_word (codes "restart") refl in
     let are = node_words nodes node few is in
     record {
-      says = ap (event_of_words nodes) (words_back (codes "restart") (decimal node ∷ []) word are) ∙ ap (result_map event.Restart) (named_node_back nodes node few is);
+      says = ap (result_map asks.Event) (ap (event_of_words nodes) (words_back (codes "restart") (decimal node ∷ []) word are) ∙ ap (result_map event.Restart) (named_node_back nodes node few is));
       inline = line_is_inline (codes "restart") (decimal node ∷ []) word are;
       read = refl;
     }
@@ -243,7 +291,7 @@ flush_back nodes node few is =
     let word : IsWord (codes "flush") = plain_word (codes "flush") refl in
     let are = node_words nodes node few is in
     record {
-      says = ap (event_of_words nodes) (words_back (codes "flush") (decimal node ∷ []) word are) ∙ ap (result_map event.Flush) (named_node_back nodes node few is);
+      says = ap (result_map asks.Event) (ap (event_of_words nodes) (words_back (codes "flush") (decimal node ∷ []) word are) ∙ ap (result_map event.Flush) (named_node_back nodes node few is));
       inline = line_is_inline (codes "flush") (decimal node ∷ []) word are;
       read = refl;
     }
@@ -253,7 +301,7 @@ merge_back nodes node few is =
     let word : IsWord (codes "merge") = plain_word (codes "merge") refl in
     let are = node_words nodes node few is in
     record {
-      says = ap (event_of_words nodes) (words_back (codes "merge") (decimal node ∷ []) word are) ∙ ap (result_map event.Merge) (named_node_back nodes node few is);
+      says = ap (result_map asks.Event) (ap (event_of_words nodes) (words_back (codes "merge") (decimal node ∷ []) word are) ∙ ap (result_map event.Merge) (named_node_back nodes node few is));
       inline = line_is_inline (codes "merge") (decimal node ∷ []) word are;
       read = refl;
     }
@@ -319,6 +367,7 @@ event_back nodes (event.Deliver place) few is = deliver_back nodes place few is
 event_back nodes (event.Drop place) few is = drop_back nodes place few is
 event_back nodes (event.Settle count) few is = settle_back nodes count is.0 is.1
 event_back nodes (event.Clock node micros) few is = clock_back nodes node micros few is
+event_back nodes (event.Mark node peer up) few is = mark_back nodes node peer up few is
 event_back nodes (event.Crash node outcome) few is = crash_back nodes node outcome few is
 event_back nodes (event.StopAt node call outcome) few is = stop_back nodes node call outcome few is
 event_back nodes (event.FailAt node call) few is = fail_back nodes node call few is

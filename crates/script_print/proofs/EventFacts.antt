@@ -1,5 +1,5 @@
 -- What holds of the event that a line says: all that its printed line wants, to be read as the event.
-use Rattle.std.proofs.Common.{◌≡◌, ℕ, ◌+◌, ◌-◌, ◌^◌, ◌<◌, ◌≤◌, true, List, [], ◌∷◌, Option, Some, None, Result, length, take, drop, get_or, ◌∙◌, ap, arith, IsUtf8, take-append-drop}
+use Rattle.std.proofs.Common.{◌≡◌, ℕ, ◌+◌, ◌-◌, ◌^◌, ◌<◌, ◌≤◌, Bool, true, false, cond, eqb, refl, List, [], ◌∷◌, Option, Some, None, Result, length, take, drop, get_or, ◌∙◌, ap, arith, IsUtf8, take-append-drop}
 use Rattle.std.specs.Prelude.{ℤ, ◌&&◌, codes, nat_lt, IfOk, IfSome}
 use Rattle.std.specs.Option.{option_map}
 use Rattle.std.specs.Str.{bytes_eq}
@@ -10,6 +10,8 @@ use Rattle.std.proofs.lemmas.Str.{IsUtf8-drop, IsCharBoundary-after_ascii}
 use Rattle.cs_base.specs.declared.level.Level.{Level}
 use Rattle.fault_script.specs.declared.script.ScriptEvent.{ScriptEvent}
 use Rattle.fault_script.specs.declared.script.ScriptEvent.TheVariants as event
+use Rattle.fault_script.specs.declared.script.EventLine.{EventLine}
+use Rattle.fault_script.specs.declared.script.EventLine.TheVariants as asks
 use Rattle.fault_script.specs.declared.script.PutRequest.{PutRequest}
 use Rattle.fault_script.specs.declared.script.GetRequest.{GetRequest}
 use Rattle.fault_script.specs.declared.script.CqlRequest.{CqlRequest}
@@ -17,7 +19,7 @@ use Rattle.fault_script.specs.declared.script.MessagePlace.{MessagePlace}
 use Rattle.cs_store.specs.declared.mem_file.Outcome.{Outcome}
 use Rattle.fault_script.specs.declared.script.Fault.{Fault}
 use Rattle.fault_script.specs.declared.script.Fault.TheVariants as fault
-use Rattle.fault_script.specs.Lines.{put_line, put_of, get_line, get_of, message_line, place_of, settle_line, named_node, pair_of, named_pair, node_line, pair_line, clock_at, crash_of, crash_line, stop_of, stop_line, fail_at, node_event, outcome_of, event_line, cql_of, cql_behind, cql_from, event_of_words, event_of, event_at, words_of, behind, first_word, node_of, level_of, long_of, number_within, is_number, is_signed_number, is_long, is_long_word, signed_value, is_text, is_space, without_spaces}
+use Rattle.fault_script.specs.Lines.{put_line, put_of, get_line, get_of, message_line, place_of, settle_line, named_node, pair_of, named_pair, node_line, pair_line, clock_at, peers_of, named_peers, mark_of, mark_line, up_of, crash_of, crash_line, stop_of, stop_line, fail_at, node_event, outcome_of, event_line, cql_of, cql_behind, cql_from, event_of_words, event_of, event_at, words_of, behind, first_word, node_of, level_of, long_of, number_within, is_number, is_signed_number, is_long, is_long_word, signed_value, is_text, is_space, without_spaces}
 use Rattle.script_print.proofs.Holding.{some_from, either_holds, some_where, understood_where, option_map_holds, result_map_holds}
 use Rattle.script_print.proofs.Bytes.{lacks, lacks_parts, lacks_without_spaces, text_is_utf8, utf8_without_spaces, without_spaces_again}
 use Rattle.script_print.proofs.LineWords.{IsWord, AreWords, words_are_words}
@@ -60,6 +62,12 @@ pub record IsFitPair (nodes least most node number : ℕ) : Type 0 where
   pub at : IsNode nodes node
   pub bounds : IsWithin least most number × (number ≤ most)
 
+-- a node, and another one
+pub record IsFitMark (nodes node peer : ℕ) : Type 0 where
+  pub at : IsNode nodes node
+  pub other : IsNode nodes peer
+  pub apart : eqb node peer ≡ false
+
 abbrev pub IsFitEvent : ℕ → ScriptEvent → Type 0
 IsFitEvent nodes (event.Put put) = IsFitPut nodes put
 IsFitEvent nodes (event.Get get) = IsFitGet nodes get
@@ -68,12 +76,18 @@ IsFitEvent nodes (event.Deliver place) = IsFitPlace nodes place
 IsFitEvent nodes (event.Drop place) = IsFitPlace nodes place
 IsFitEvent nodes (event.Settle count) = IsWithin 1 100000 count × (count ≤ 100000)
 IsFitEvent nodes (event.Clock node micros) = IsFitPair nodes 0 (2 ^ 64 - 1) node micros
+IsFitEvent nodes (event.Mark node peer up) = IsFitMark nodes node peer
 IsFitEvent nodes (event.Crash node outcome) = IsNode nodes node
 IsFitEvent nodes (event.StopAt node call outcome) = IsFitPair nodes 1 4294967295 node call
 IsFitEvent nodes (event.FailAt node call) = IsFitPair nodes 1 4294967295 node call
 IsFitEvent nodes (event.Restart node) = IsNode nodes node
 IsFitEvent nodes (event.Flush node) = IsNode nodes node
 IsFitEvent nodes (event.Merge node) = IsNode nodes node
+
+-- what a line says, before its statement is read
+abbrev pub FitLine : ℕ → EventLine → Type 0
+FitLine nodes (asks.Event e) = IsFitEvent nodes e
+FitLine nodes (asks.Cql node level text) = IsNode nodes node × IsRest text
 
 -- ---- words
 
@@ -166,6 +180,31 @@ pair_line_fits nodes least most (a ∷ []) = tt
 pair_line_fits nodes least most (a ∷ b ∷ []) = named_pair_fits nodes least most a b
 pair_line_fits nodes least most (a ∷ b ∷ c ∷ words) = tt
 
+other_fits : (nodes node peer : ℕ) (t : Bool) → eqb node peer ≡ t → IsNode nodes node → IsNode nodes peer → IfSome {T = ℕ × ℕ} (cond t None (Some (node, peer))) (λ p. IsFitMark nodes p.0 p.1)
+other_fits nodes node peer true same n p = tt
+other_fits nodes node peer false apart n p = record { at = n; other = p; apart = apart }
+
+peers_of_fits : (nodes : ℕ) (node peer : Option ℕ) → IfSome node (IsNode nodes) → IfSome peer (IsNode nodes) → IfSome (peers_of node peer) (λ p. IsFitMark nodes p.0 p.1)
+peers_of_fits nodes None peer n p = tt
+peers_of_fits nodes (Some node) None n p = tt
+peers_of_fits nodes (Some node) (Some peer) n p = other_fits nodes node peer (eqb node peer) refl n p
+
+named_peers_fit : (nodes : ℕ) (node peer : List ℕ) → IfOk (named_peers nodes node peer) (λ p. IsFitMark nodes p.0 p.1)
+named_peers_fit nodes node peer =
+    understood_where (λ (p : ℕ × ℕ). IsFitMark nodes p.0 p.1) fault.Line (is_number node && is_number peer) (peers_of (node_of nodes node) (node_of nodes peer))
+    (λ _. peers_of_fits nodes (node_of nodes node) (node_of nodes peer) (node_fits nodes node) (node_fits nodes peer))
+
+mark_of_fits : (nodes : ℕ) (up : Option Bool) (peers : Result (ℕ × ℕ) Fault) → IfOk peers (λ p. IsFitMark nodes p.0 p.1) → IfOk (mark_of up peers) (IsFitEvent nodes)
+mark_of_fits nodes None peers is = tt
+mark_of_fits nodes (Some up) peers is = result_map_holds (IsFitEvent nodes) (λ (p : ℕ × ℕ). event.Mark p.0 p.1 up) peers is
+
+mark_line_fits : (nodes : ℕ) (words : List (List ℕ)) → IfOk (mark_line nodes words) (IsFitEvent nodes)
+mark_line_fits nodes [] = tt
+mark_line_fits nodes (a ∷ []) = tt
+mark_line_fits nodes (a ∷ b ∷ []) = tt
+mark_line_fits nodes (a ∷ b ∷ c ∷ []) = mark_of_fits nodes (up_of c) (named_peers nodes a b) (named_peers_fit nodes a b)
+mark_line_fits nodes (a ∷ b ∷ c ∷ d ∷ words) = tt
+
 crash_of_fits : (nodes : ℕ) (outcome : Option Outcome) (node : Result ℕ Fault) → IfOk node (IsNode nodes) → IfOk (crash_of outcome node) (IsFitEvent nodes)
 crash_of_fits nodes None node is = tt
 crash_of_fits nodes (Some outcome) node is = result_map_holds (IsFitEvent nodes) (λ n. event.Crash n outcome) node is
@@ -193,12 +232,13 @@ node_event_fits nodes word words =
     let node = node_line nodes words in
     let is_node = node_line_fits nodes words in
     either_holds fits (bytes_eq word (codes "clock")) _ _ (result_map_holds fits clock_at (pair_line nodes 0 (2 ^ 64 - 1) words) (pair_line_fits nodes 0 (2 ^ 64 - 1) words))
+    (either_holds fits (bytes_eq word (codes "mark")) _ _ (mark_line_fits nodes words)
     (either_holds fits (bytes_eq word (codes "crash")) _ _ (crash_line_fits nodes words)
     (either_holds fits (bytes_eq word (codes "stopat")) _ _ (stop_line_fits nodes words)
     (either_holds fits (bytes_eq word (codes "failat")) _ _ (result_map_holds fits fail_at (pair_line nodes 1 4294967295 words) (pair_line_fits nodes 1 4294967295 words))
     (either_holds fits (bytes_eq word (codes "restart")) _ _ (result_map_holds fits event.Restart node is_node)
     (either_holds fits (bytes_eq word (codes "flush")) _ _ (result_map_holds fits event.Flush node is_node)
-    (either_holds fits (bytes_eq word (codes "merge")) _ _ (result_map_holds fits event.Merge node is_node) tt))))))
+    (either_holds fits (bytes_eq word (codes "merge")) _ _ (result_map_holds fits event.Merge node is_node) tt)))))))
 
 event_line_fits : (nodes : ℕ) (words : List (List ℕ)) → AreWords words → IfOk (event_line nodes words) (IsFitEvent nodes)
 event_line_fits nodes [] are = tt
@@ -233,17 +273,17 @@ first_word_fits text is =
     let space : get_or text place 0 ≡ 32 = eqb-true (get_or text place 0) 32 (passes_at_first is_space text 0 inside) in
     rest_of (after_first is_space text) (IsUtf8-drop text (place + 1) is.text (IsCharBoundary-after_ascii text place is.text inside (omega (arith, space)))) (lacks_drop 10 (place + 1) text is.inline))
 
-cql_of_fits : (nodes : ℕ) (node : Option ℕ) (level : Option Level) (text : List ℕ) → IfSome node (IsNode nodes) → IsRest text → IfSome (cql_of node level text) (IsFitEvent nodes)
+cql_of_fits : (nodes : ℕ) (node : Option ℕ) (level : Option Level) (text : List ℕ) → IfSome node (IsNode nodes) → IsRest text → IfSome (cql_of node level text) (FitLine nodes)
 cql_of_fits nodes None level text is rest = tt
 cql_of_fits nodes (Some node) None text is rest = tt
-cql_of_fits nodes (Some node) (Some level) text is rest = record { node = is; text = rest }
+cql_of_fits nodes (Some node) (Some level) text is rest = (is, rest)
 
-cql_behind_fits : (nodes : ℕ) (node : List ℕ) (rest : Option (List ℕ × List ℕ)) → IfSome rest (λ r. IsRest r.1) → IfOk (cql_behind nodes node rest) (IsFitEvent nodes)
+cql_behind_fits : (nodes : ℕ) (node : List ℕ) (rest : Option (List ℕ × List ℕ)) → IfSome rest (λ r. IsRest r.1) → IfOk (cql_behind nodes node rest) (FitLine nodes)
 cql_behind_fits nodes node None is = tt
 cql_behind_fits nodes node (Some rest) is =
-    understood_where (IsFitEvent nodes) fault.Line (is_number node) (cql_of (node_of nodes node) (level_of rest.0) rest.1) (λ _. cql_of_fits nodes (node_of nodes node) (level_of rest.0) rest.1 (node_fits nodes node) is)
+    understood_where (FitLine nodes) fault.Line (is_number node) (cql_of (node_of nodes node) (level_of rest.0) rest.1) (λ _. cql_of_fits nodes (node_of nodes node) (level_of rest.0) rest.1 (node_fits nodes node) is)
 
-cql_from_fits : (nodes : ℕ) (rest : Option (List ℕ × List ℕ)) → IfSome rest (λ r. IsRest r.1) → IfOk (cql_from nodes rest) (IsFitEvent nodes)
+cql_from_fits : (nodes : ℕ) (rest : Option (List ℕ × List ℕ)) → IfSome rest (λ r. IsRest r.1) → IfOk (cql_from nodes rest) (FitLine nodes)
 cql_from_fits nodes None is = tt
 cql_from_fits nodes (Some rest) is = cql_behind_fits nodes rest.0 (first_word rest.1) (first_word_fits rest.1 is)
 
@@ -254,9 +294,10 @@ event_words_fit nodes (Some words) are = event_line_fits nodes words are
 pub line_words_fit : (line : List ℕ) → lacks 10 line ≡ true → IfSome (words_of line) AreWords
 line_words_fit line inline = some_from AreWords (words_of line) (λ words found. words_are_words line words inline found)
 
-event_of_fits : (nodes : ℕ) (line : List ℕ) (text : Option (List ℕ)) → lacks 10 line ≡ true → IfSome text IsRest → IfOk (event_of nodes line text) (IsFitEvent nodes)
+event_of_fits : (nodes : ℕ) (line : List ℕ) (text : Option (List ℕ)) → lacks 10 line ≡ true → IfSome text IsRest → IfOk (event_of nodes line text) (FitLine nodes)
 event_of_fits nodes line (Some text) inline is = cql_from_fits nodes (first_word text) (first_word_fits text is)
-event_of_fits nodes line None inline is = event_words_fit nodes (words_of line) (line_words_fit line inline)
+event_of_fits nodes line None inline is =
+    result_map_holds (FitLine nodes) asks.Event (event_of_words nodes (words_of line)) (event_words_fit nodes (words_of line) (line_words_fit line inline))
 
-pub event_at_fits : (nodes : ℕ) (line : List ℕ) → lacks 10 line ≡ true → IfOk (event_at nodes line) (IsFitEvent nodes)
+pub event_at_fits : (nodes : ℕ) (line : List ℕ) → lacks 10 line ≡ true → IfOk (event_at nodes line) (FitLine nodes)
 event_at_fits nodes line inline = event_of_fits nodes line (behind (codes "cql ") line) inline (behind_fits (codes "cql ") line inline)

@@ -1,9 +1,10 @@
 -- The definitions at worked rows.
 use Rattle.std.proofs.Common.{◌≡◌, [], ◌∷◌, refl}
-use Rattle.std.specs.Prelude.{pos, negsuc, codes}
+use Rattle.std.specs.Prelude.{pos, negsuc, false, codes}
 use Rattle.std.specs.Fmt.{digits}
 use Rattle.cs_base.specs.declared.level.Level.TheVariants as level
 use Rattle.cs_store.specs.declared.mem_file.Outcome.TheVariants.{Lost, Torn}
+use Rattle.cql_statement.specs.declared.statement.Statement.{Statement}
 use Rattle.schema_book.specs.Books.{Book}
 use Rattle.fault_script.specs.declared.script.Script.{Script}
 use Rattle.fault_script.specs.declared.script.ScriptEvent.TheVariants as event
@@ -29,9 +30,9 @@ get : event_line (event.Get (record { node = 0; level = level.All; key = codes "
 unfolding digits
 get = refl
 
-cql : event_line (event.Cql (record { node = 2; level = level.One; text = codes "USE  ks; " })) ≡ codes "cql 2 ONE USE  ks; "
+cql : (s : Statement) → event_line (event.Cql (record { node = 2; level = level.One; text = codes "USE  ks; "; statement = s })) ≡ codes "cql 2 ONE USE  ks; "
 unfolding digits
-cql = refl
+cql s = refl
 
 deliver : event_line (event.Deliver (record { from = 0; upto = 2; number = 10 })) ≡ codes "deliver 0 2 10"
 unfolding digits
@@ -44,6 +45,10 @@ drop = refl
 clock : event_line (event.Clock 1 5000001) ≡ codes "clock 1 5000001"
 unfolding digits
 clock = refl
+
+mark : event_line (event.Mark 0 1 false) ≡ codes "mark 0 1 down"
+unfolding digits
+mark = refl
 
 crash : event_line (event.Crash 0 Lost) ≡ codes "crash 0 lost"
 unfolding digits

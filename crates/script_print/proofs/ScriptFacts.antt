@@ -9,6 +9,8 @@ use Rattle.schema_book.specs.Books.{Book, book_of}
 use Rattle.schema_book.specs.declared.error.Refused.{Refused}
 use Rattle.fault_script.specs.declared.script.Script.{Script}
 use Rattle.fault_script.specs.declared.script.ScriptEvent.{ScriptEvent}
+use Rattle.fault_script.specs.declared.script.EventLine.{EventLine}
+use Rattle.fault_script.specs.declared.script.EventLine.TheVariants as asks
 use Rattle.fault_script.specs.declared.script.ScriptError.{ScriptError}
 use Rattle.fault_script.specs.declared.script.ScriptError.TheVariants as refused
 use Rattle.fault_script.specs.declared.script.Settings.{Settings}
@@ -20,10 +22,10 @@ use Rattle.fault_script.specs.declared.reader.Stage.{Stage}
 use Rattle.fault_script.specs.declared.reader.Stage.TheVariants as stage
 use Rattle.fault_script.specs.Lines.{head_line, event_at, is_skipped, lines_of, onto_first}
 use Rattle.fault_script.specs.Written.{WrittenSchema}
-use Rattle.fault_script.specs.Script.{IsOneStatement, IsSaid, IsRead, IsReadBy, Reads, Goes, GoesBy, LineGoes, HeadGoes, EventGoes, made_of, end_of, script_with, longest_script, most_lines, first_reader}
+use Rattle.fault_script.specs.Script.{IsOneStatement, IsRead, IsReadBy, Reads, Goes, GoesBy, LineGoes, HeadGoes, EventGoes, with_event, cql_event, made_of, end_of, script_with, longest_script, most_lines, first_reader}
 use Rattle.fault_script.specs.Laws.{AreStatements}
 use Rattle.script_print.proofs.Bytes.{lacks}
-use Rattle.script_print.proofs.EventFacts.{IsRest, IsFitEvent, event_at_fits}
+use Rattle.script_print.proofs.EventFacts.{IsRest, IsFitEvent, FitLine, event_at_fits}
 use Rattle.script_print.proofs.HeadFacts.{IsFitSettings, IsFitStage, IsFitLine, head_line_fits}
 
 -- the type of a value
@@ -50,11 +52,6 @@ lines_are_inline (b ∷ text) =
 
 -- ---- what was read
 
--- an event that can be printed and whose CQL is a statement
-pub record IsEvent (nodes : ℕ) (e : ScriptEvent) : Type 0 where
-  pub fit : IsFitEvent nodes e
-  pub said : IsSaid e
-
 abbrev StageFits : Stage → Type 0
 StageFits (stage.Head next) = IsFitStage next
 StageFits (stage.Events opening) = IsFitSettings opening.settings
@@ -67,7 +64,7 @@ HasBook (stage.Events opening) statements = book_of (length opening.settings.rin
 -- events come behind the head alone, no more than one a line
 abbrev HasEvents : ℕ → Stage → List ScriptEvent → Type 0
 HasEvents number (stage.Head next) events = events ≡ []
-HasEvents number (stage.Events opening) events = All (IsEvent (length opening.settings.ring)) events × (opening.first + length events ≤ number)
+HasEvents number (stage.Events opening) events = All (IsFitEvent (length opening.settings.ring)) events × (opening.first + length events ≤ number)
 
 record Holds (number : ℕ) (s : Stage) (written : WrittenSchema) (events : List ScriptEvent) : Type 0 where
   stage : StageFits s
@@ -106,26 +103,32 @@ head_goes n s written events (Ok (says.Run settings)) read fits are rests none g
         texts = are;
         rests = rests;
         book = made_ok written (book_of (length settings.ring) settings.factor settings.grace written.statements) goes.0 goes.1;
-        behind = (All-same (IsEvent (length settings.ring)) events [] none (All-nil (IsEvent (length settings.ring))), omega (arith, count));
+        behind = (All-same (IsFitEvent (length settings.ring)) events [] none (All-nil (IsFitEvent (length settings.ring))), omega (arith, count));
       },
       refl,
     )
 head_goes n s written events (Err f) read fits are rests none goes = absurd goes
 
-event_goes : (n : ℕ) (opening : Opening) (written : WrittenSchema) (events : List ScriptEvent) (r : Result ScriptEvent Fault) (read : Reader) → Holds n (stage.Events opening) written events → IfOk r (IsFitEvent (length opening.settings.ring)) → EventGoes (record { number = n; stage = stage.Events opening; written = written; events = events }) r read → HoldsAt (n + 1) read × (read.number ≡ n)
-event_goes n opening written events (Ok said) read holds fits goes =
+with_one : (n : ℕ) (opening : Opening) (written : WrittenSchema) (events : List ScriptEvent) (said : ScriptEvent) (read : Reader) → Holds n (stage.Events opening) written events
+    → IsFitEvent (length opening.settings.ring) said → read ≡ with_event (record { number = n; stage = stage.Events opening; written = written; events = events }) said → HoldsAt (n + 1) read × (read.number ≡ n)
+with_one n opening written events said read holds fits is =
     let count : length (events ++ said ∷ []) ≡ length events + 1 = length-append events (said ∷ []) in
     let before = holds.behind.1 in
-    subst (λ (r : Reader). HoldsAt (n + 1) r × (r.number ≡ n)) (sym goes.1) (
+    subst (λ (r : Reader). HoldsAt (n + 1) r × (r.number ≡ n)) (sym is) (
       record {
         stage = holds.stage;
         texts = holds.texts;
         rests = holds.rests;
         book = holds.book;
-        behind = (All-push (IsEvent (length opening.settings.ring)) events said holds.behind.0 (record { fit = fits; said = goes.0 }), omega (arith, count, before));
+        behind = (All-push (IsFitEvent (length opening.settings.ring)) events said holds.behind.0 fits, omega (arith, count, before));
       },
       refl,
     )
+
+event_goes : (n : ℕ) (opening : Opening) (written : WrittenSchema) (events : List ScriptEvent) (r : Result EventLine Fault) (read : Reader) → Holds n (stage.Events opening) written events → IfOk r (FitLine (length opening.settings.ring)) → EventGoes (record { number = n; stage = stage.Events opening; written = written; events = events }) r read → HoldsAt (n + 1) read × (read.number ≡ n)
+event_goes n opening written events (Ok (asks.Event said)) read holds fits goes = with_one n opening written events said read holds fits goes
+event_goes n opening written events (Ok (asks.Cql node level text)) read holds fits goes =
+    with_one n opening written events (cql_event node level text goes.0) read holds (record { node = fits.0; text = fits.1 }) goes.2
 event_goes n opening written events (Err f) read holds fits goes = absurd goes
 
 line_goes : (n : ℕ) (s : Stage) (written : WrittenSchema) (events : List ScriptEvent) (line : List ℕ) (read : Reader) → lacks 10 line ≡ true → Holds n s written events → LineGoes s (record { number = n; stage = s; written = written; events = events }) line read → HoldsAt (n + 1) read × (read.number ≡ n)
@@ -162,7 +165,7 @@ pub record IsFitScript (script : Script) : Type 0 where
   pub texts : AreStatements script.statements parsed
   pub rests : All IsRest script.statements
   pub made : book_of (length script.ring) script.factor script.grace parsed ≡ Ok script.schema
-  pub events : All (IsEvent (length script.ring)) script.events
+  pub events : All (IsFitEvent (length script.ring)) script.events
   pub few : length script.events ≤ most_lines
 
 ended : (n : ℕ) (many : Bool) (opening : Opening) (reader : Reader) → nat_lt most_lines (n - opening.first) ≡ many → Holds n (stage.Events opening) reader.written reader.events → IfOk (cond many (Err refused.TooMany) (Ok (script_with opening reader.written.texts reader.events))) IsFitScript

@@ -1,5 +1,5 @@
 -- A script in print: a line for each thing that it says, in the order in which the reader wants them.
-use Rattle.std.specs.Prelude.{ℕ, ◌==◌, if◌then◌else◌, ℤ, List, [], ◌∷◌, ◌++◌, flat_map, map, codes}
+use Rattle.std.specs.Prelude.{ℕ, Bool, true, false, ◌==◌, if◌then◌else◌, ℤ, List, [], ◌∷◌, ◌++◌, flat_map, map, codes}
 use Rattle.std.specs.Fmt.{decimal, signed_decimal}
 use Rattle.cs_base.specs.declared.level.Level.{Level}
 use Rattle.cs_base.specs.declared.level.Level.TheVariants as level
@@ -30,6 +30,11 @@ abbrev pub outcome_name : Outcome → List ℕ
 outcome_name Kept = codes "kept"
 outcome_name Lost = codes "lost"
 outcome_name Torn = codes "torn"
+
+-- what a mark says of the peer
+abbrev pub up_name : Bool → List ℕ
+up_name true = codes "up"
+up_name false = codes "down"
 
 -- a word behind a space
 abbrev pub spaced : List ℕ → List ℕ
@@ -76,6 +81,9 @@ message_line word place = line_of_words word (decimal place.from ∷ decimal pla
 abbrev pub pair_line : List ℕ → ℕ → ℕ → List ℕ
 pair_line word node number = line_of_words word (decimal node ∷ decimal number ∷ [])
 
+abbrev pub mark_line : ℕ → ℕ → Bool → List ℕ
+mark_line node peer up = line_of_words (codes "mark") (decimal node ∷ decimal peer ∷ up_name up ∷ [])
+
 abbrev pub crash_line : ℕ → Outcome → List ℕ
 crash_line node outcome = line_of_words (codes "crash") (decimal node ∷ outcome_name outcome ∷ [])
 
@@ -90,6 +98,7 @@ event_line (event.Deliver place) = message_line (codes "deliver") place
 event_line (event.Drop place) = message_line (codes "drop") place
 event_line (event.Settle count) = number_line (codes "settle") count
 event_line (event.Clock node micros) = pair_line (codes "clock") node micros
+event_line (event.Mark node peer up) = mark_line node peer up
 event_line (event.Crash node outcome) = crash_line node outcome
 event_line (event.StopAt node call outcome) = stop_line node call outcome
 event_line (event.FailAt node call) = pair_line (codes "failat") node call

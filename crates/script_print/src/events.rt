@@ -2,9 +2,11 @@
 
 ghost use Rattle.std.specs.Prelude.{◌≡◌, ◌∷◌, ◌++◌, [], OnOk, codes, flat_map, map};
 ghost use Rattle.std.specs.Fmt.{decimal, signed_decimal};
-ghost use Rattle.script_print.specs.Printed.{spaced, level_name, put_line, get_line, cql_line, message_line, pair_line, crash_line, stop_line, event_line, number_line, ended, printed_lines};
+ghost use Rattle.script_print.specs.Printed.{spaced, level_name, put_line, get_line, cql_line, message_line, pair_line, mark_line, crash_line, stop_line, event_line, number_line, ended, printed_lines};
 
-use crate::words::{push_level, push_node, push_number, push_outcome, push_signed, push_word};
+use crate::words::{
+    push_level, push_node, push_number, push_outcome, push_signed, push_up, push_word,
+};
 use cs_base::{Level, NodeId};
 use cs_store::Outcome;
 use fault_script::{CqlRequest, GetRequest, MessagePlace, PutRequest, ScriptEvent};
@@ -113,6 +115,21 @@ fn push_pair(
     push_number(alloc, out, number)
 }
 
+fn push_mark(
+    alloc: Global,
+    out: &mut Vec<u8>,
+    node: NodeId,
+    peer: NodeId,
+    up: bool,
+) -> Result<(), AllocError>
+    ensures { OnOk result (out.new.items ≡ out.old.items ++ mark_line node peer up) }
+{
+    out.extend_from_slice(b"mark")?;
+    push_node(alloc, out, node)?;
+    push_node(alloc, out, peer)?;
+    push_up(out, up)
+}
+
 fn push_crash(
     alloc: Global,
     out: &mut Vec<u8>,
@@ -152,6 +169,7 @@ fn push_event(alloc: Global, out: &mut Vec<u8>, event: &ScriptEvent) -> Result<(
         ScriptEvent::Drop(place) => push_message(alloc, out, "drop", *place),
         ScriptEvent::Settle(count) => push_settle(alloc, out, *count),
         ScriptEvent::Clock(node, micros) => push_pair(alloc, out, "clock", *node, micros.count()),
+        ScriptEvent::Mark(node, peer, up) => push_mark(alloc, out, *node, *peer, *up),
         ScriptEvent::Crash(node, outcome) => push_crash(alloc, out, *node, *outcome),
         ScriptEvent::StopAt(node, call, outcome) => {
             push_stop(alloc, out, *node, u64::from(*call), *outcome)

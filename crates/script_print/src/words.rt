@@ -2,7 +2,7 @@
 
 ghost use Rattle.std.specs.Prelude.{◌≡◌, ◌++◌, OnOk};
 ghost use Rattle.std.specs.Fmt.{decimal, signed_decimal};
-ghost use Rattle.script_print.specs.Printed.{level_name as name_of_level, outcome_name as name_of_outcome, spaced};
+ghost use Rattle.script_print.specs.Printed.{level_name as name_of_level, outcome_name as name_of_outcome, up_name as name_of_up, spaced};
 
 use cs_base::{Level, NodeId};
 use cs_store::Outcome;
@@ -72,4 +72,17 @@ pub(crate) fn push_outcome(out: &mut Vec<u8>, outcome: Outcome) -> Result<(), Al
     ensures { OnOk result (out.new.items ≡ out.old.items ++ spaced (name_of_outcome outcome)) }
 {
     push_word(out, outcome_name(outcome))
+}
+
+/// What a mark says of the peer.
+fn up_name(up: bool) -> &'static str
+    ensures { result.now ≡ name_of_up up }
+{
+    if up { "up" } else { "down" }
+}
+
+pub(crate) fn push_up(out: &mut Vec<u8>, up: bool) -> Result<(), AllocError>
+    ensures { OnOk result (out.new.items ≡ out.old.items ++ spaced (name_of_up up)) }
+{
+    push_word(out, up_name(up))
 }

@@ -1,5 +1,5 @@
 -- The slots of a statement with their values: what of them is used, and the lowest refusal.
-use Rattle.std.specs.Prelude.{ℕ, ℤ, List, [], ◌∷◌, ◌++◌, Option, Some, None, if◌then◌else◌, fold, option_map}
+use Rattle.std.specs.Prelude.{ℕ, ℤ, ◌+◌, nat_lt, Bool, true, false, List, [], ◌∷◌, ◌++◌, Option, Some, None, if◌then◌else◌, fold, insert, option_map}
 use Rattle.std.specs.Result.{result_ok}
 use Rattle.cql_statement.specs.declared.term.RelationOperator.{RelationOperator}
 use Rattle.cql_statement.specs.declared.term.TestOperator.{TestOperator}
@@ -10,6 +10,7 @@ use Rattle.cql_values.specs.declared.value.CqlValue.{CqlValue}
 use Rattle.condition_test.specs.Laws.{order_of_type}
 use Rattle.statement_plan.specs.Faults.{lower}
 use Rattle.statement_plan.specs.declared.fault.Fault.{Fault}
+use Rattle.statement_plan.specs.declared.fault.Fault.TheVariants as fault
 use Rattle.statement_plan.specs.declared.operation.Compare.{Compare}
 use Rattle.statement_plan.specs.declared.operation.Compare.TheVariants as compares
 use Rattle.statement_values.specs.Supply.{next_given, left_of}
@@ -21,6 +22,7 @@ use Rattle.prepared_statement.specs.Names.{column_number}
 use Rattle.prepared_statement.specs.declared.slot.Role.{Role}
 use Rattle.prepared_statement.specs.declared.slot.Role.TheVariants as roles
 use Rattle.prepared_statement.specs.declared.slot.Slot.{Slot}
+use Rattle.statement_binder.specs.declared.filled.CellValue.{CellValue}
 use Rattle.statement_binder.specs.declared.filled.Filled.{Filled}
 
 -- ---- a value
@@ -69,9 +71,20 @@ abbrev pub with_key : Filled → ℕ → RelationOperator → Option CqlValue �
 with_key f place operator None = f
 with_key f place operator (Some v) = record f { keys = f.keys ++ record { column = place; operator = operator; value = v } ∷ [] }
 
+-- the place of the first cell of a later column, from this place on
+abbrev pub place_from : ℕ → ℕ → List CellValue → ℕ
+place_from column place [] = place
+place_from column place (c ∷ cs) = if nat_lt column c.column then place else place_from column (place + 1) cs
+
+abbrev pub place_for : List CellValue → ℕ → ℕ
+place_for cells column = place_from column 0 cells
+
+-- cells stand by their columns, and those of one column as they come
 abbrev pub with_cell : Filled → ℕ → Option (Option (List ℕ)) → Filled
 with_cell f place None = f
-with_cell f place (Some value) = record f { cells = f.cells ++ record { column = column_number place; value = value } ∷ [] }
+with_cell f place (Some value) = record f {
+  cells = insert f.cells (place_for f.cells (column_number place)) (record { column = column_number place; value = value });
+}
 
 abbrev pub with_test : Filled → ℕ → TestOperator → CqlType → Option (Option (List ℕ)) → Filled
 with_test f place operator ty None = f
@@ -89,8 +102,35 @@ by_role f roles.Limit ty p = record f { limit = limit_in p }
 by_role f (roles.Unfilled place) ty p = f
 by_role f roles.Unplaced ty p = f
 
+-- what is refused of a slot says that its value is none of its type
+abbrev pub is_mismatch : Fault → Bool
+is_mismatch fault.TypeMismatch = true
+is_mismatch _ = false
+
+abbrev pub tells_mismatch : Option Fault → Bool
+tells_mismatch None = false
+tells_mismatch (Some f) = is_mismatch f
+
+-- what is said of the bytes of a value, where it has some
+abbrev pub IfGiven : (List ℕ → Type 0) → Option Param → Type 0
+IfGiven P None = Unit {0}
+IfGiven P (Some Null) = Unit {0}
+IfGiven P (Some NotSet) = Unit {0}
+IfGiven P (Some (Given bytes)) = P bytes
+
+-- the slot is for a cell or a test, whose bytes are kept
+abbrev pub IsWritten : Role → Type 0
+IsWritten (roles.Key place operator) = ⊥
+IsWritten (roles.Filter place) = ⊥
+IsWritten (roles.Cell place) = Unit {0}
+IsWritten (roles.Test place operator) = Unit {0}
+IsWritten roles.Timestamp = ⊥
+IsWritten roles.Limit = ⊥
+IsWritten (roles.Unfilled place) = ⊥
+IsWritten roles.Unplaced = ⊥
+
 abbrev pub with_fault : Filled → Option Fault → Filled
-with_fault f fault = record f { fault = lower f.fault fault }
+with_fault f told = record f { fault = lower f.fault told }
 
 -- one slot more, with what a request gives for its marker
 abbrev pub with_slot : Filled → Slot → Option Param → Filled

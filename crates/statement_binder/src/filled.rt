@@ -1,23 +1,25 @@
 //! The slots of a statement with their values.
 
-ghost use Rattle.std.specs.Prelude.{◌≡◌, IfOk, OnOk, option_copied};
+ghost use Rattle.std.specs.Prelude.{◌≡◌, ◌≢◌, ◌≤◌, if◌then◌else◌, None, Some, IfOk, OnOk, length, option_copied};
 ghost use Rattle.std.specs.Result.{result_ok};
 ghost use Rattle.cql_values.specs.Protocol.{decoded as decoded_of};
 ghost use Rattle.cql_values.specs.declared.value.CqlType.TheVariants as types;
 ghost use Rattle.statement_values.specs.Sources.{left_in};
-ghost use Rattle.statement_binder.specs.Filled.{compare_of as compare_of_operator, value_in as value_in_of, stored as stored_of, written as written_of, timestamp_in as timestamp_in_of, limit_in as limit_in_of, with_key, with_cell, with_test, by_role, with_slot, given_to as given_to_slot, behind, left_after, unfilled, filled_of};
+ghost use Rattle.prepared_statement.specs.Faults.{fits, slot_fault as slot_fault_of, value_at as value_at_of};
+ghost use Rattle.statement_binder.specs.Filled.{compare_of as compare_of_operator, value_in as value_in_of, stored as stored_of, written as written_of, timestamp_in as timestamp_in_of, limit_in as limit_in_of, with_key, place_for as place_for_of, with_cell, with_test, by_role, is_mismatch as is_mismatch_of, tells_mismatch as tells_mismatch_of, IfGiven, IsWritten, with_slot, given_to as given_to_slot, behind, left_after, unfilled, filled_of};
 
 use condition_test::order_of;
 use cql_statement::{RelationOperator, TestOperator};
-use cql_values::{CqlType, CqlValue, ValueError, decode, encode};
+use cql_values::{CqlType, CqlValue, ValueError, decode, encoding_undoes_decoding};
 use cs_base::{Bytes, Items};
 use key_restrictions::{Restriction, Restrictions};
 use prepared_statement::{
-    Role, Slot, bigint_in, column_number, fits, int_in, is_marker, lower, slot_fault, value_at,
+    Role, Slot, bigint_in, column_number, int_in, is_marker, lower, slot_fault, value_at,
 };
 use statement_plan::{CellTest, CellTests, Compare, Fault};
 use statement_values::{Param, Supplier};
 use std::alloc::{AllocError, Global};
+use std::mem;
 
 /// What a cell gets. No value stands for null.
 #[derive(Debug, Drop)]
@@ -61,47 +63,56 @@ fn value_in(
     }
 }
 
-/// The bytes of a number, a boolean or a uuid as they are stored. Of a boolean each byte but 0 is true.
-fn stored_anew(alloc: Global, ty: CqlType, bytes: &[u8]) -> Result<Option<Bytes>, AllocError>
+/// A boolean as it is stored: each byte but 0 is true.
+fn stored_boolean(alloc: Global, bytes: &[u8]) -> Result<Option<Bytes>, AllocError>
+    ensures { IfOk result (λ word. word ≡ stored_of types.Boolean bytes.now) }
+{
+    match bytes {
+        [byte] => Ok(Some(Bytes::from_slice(alloc, &[u8::from(*byte != 0)])?)),
+        _ => Ok(None),
+    }
+}
+
+/// Values of other types are stored as they are given.
+fn bytes_stay(ty: CqlType, bytes: &[u8])
+    requires { ty ≢ types.Boolean }
+    ensures { stored_of ty bytes.now ≡ (if fits ty bytes.now then Some bytes.now else None) }
+{
+    encoding_undoes_decoding();
+}
+
+/// The bytes of another value as they are stored, in memory that is shared with them.
+fn stored_as_given(
+    alloc: Global,
+    ty: CqlType,
+    typed: bool,
+    bytes: &Bytes,
+) -> Result<Option<Bytes>, AllocError>
+    requires typed { typed ≡ fits ty bytes.now }
+    requires other { ty ≢ types.Boolean }
     ensures { IfOk result (λ word. word ≡ stored_of ty bytes.now) }
 {
-    match decoded(alloc, ty, bytes)? {
-        Some(value) => Ok(Some(encode(alloc, &value)?)),
-        None => Ok(None),
-    }
-}
-
-/// A text of ASCII as it is stored, in memory that is shared with it.
-fn stored_ascii(alloc: Global, bytes: &Bytes) -> Result<Option<Bytes>, AllocError>
-    ensures { IfOk result (λ word. word ≡ stored_of types.Ascii bytes.now) }
-{
-    if fits(CqlType::Ascii, bytes.as_slice()) {
+    bytes_stay(ty, bytes.as_slice());
+    if typed {
         Ok(Some(bytes.copy(alloc)?))
     } else {
         Ok(None)
     }
 }
 
-/// A text as it is stored, in memory that is shared with it.
-fn stored_text(alloc: Global, bytes: &Bytes) -> Result<Option<Bytes>, AllocError>
-    ensures { IfOk result (λ word. word ≡ stored_of types.Text bytes.now) }
-{
-    if fits(CqlType::Text, bytes.as_slice()) {
-        Ok(Some(bytes.copy(alloc)?))
-    } else {
-        Ok(None)
-    }
-}
-
-/// The bytes of a value as they are stored.
-fn stored(alloc: Global, ty: CqlType, bytes: &Bytes) -> Result<Option<Bytes>, AllocError>
+/// The bytes of a value as they are stored, where they are of the type.
+fn stored(
+    alloc: Global,
+    ty: CqlType,
+    typed: bool,
+    bytes: &Bytes,
+) -> Result<Option<Bytes>, AllocError>
+    requires { typed ≡ fits ty bytes.now }
     ensures { IfOk result (λ word. word ≡ stored_of ty bytes.now) }
 {
     match ty {
-        CqlType::Ascii => stored_ascii(alloc, bytes),
-        CqlType::Blob => Ok(Some(bytes.copy(alloc)?)),
-        CqlType::Text => stored_text(alloc, bytes),
-        _ => stored_anew(alloc, ty, bytes.as_slice()),
+        CqlType::Boolean => stored_boolean(alloc, bytes.as_slice()),
+        _ => stored_as_given(alloc, ty, typed, bytes),
     }
 }
 
@@ -109,14 +120,16 @@ fn stored(alloc: Global, ty: CqlType, bytes: &Bytes) -> Result<Option<Bytes>, Al
 fn written(
     alloc: Global,
     ty: CqlType,
+    typed: bool,
     param: Option<&Param>,
 ) -> Result<Option<Option<Bytes>>, AllocError>
+    requires { IfGiven (λ bytes. typed ≡ fits ty bytes) (option_copied param) }
     ensures { IfOk result (λ value. value ≡ written_of ty (option_copied param.entry)) }
 {
     match param {
         None | Some(Param::NotSet) => Ok(None),
         Some(Param::Null) => Ok(Some(None)),
-        Some(Param::Given(bytes)) => match stored(alloc, ty, bytes)? {
+        Some(Param::Given(bytes)) => match stored(alloc, ty, typed, bytes)? {
             Some(word) => Ok(Some(Some(word))),
             None => Ok(None),
         },
@@ -139,6 +152,45 @@ fn limit_in(param: Option<&Param>) -> Option<i32>
         Some(Param::Given(bytes)) => int_in(bytes.as_slice()),
         Some(Param::Null) | Some(Param::NotSet) | None => None,
     }
+}
+
+fn is_mismatch(fault: Fault) -> bool
+    ensures { result ≡ is_mismatch_of fault }
+{
+    match fault {
+        Fault::TypeMismatch => true,
+        _ => false,
+    }
+}
+
+fn tells_mismatch(fault: Option<Fault>) -> bool
+    ensures { result ≡ tells_mismatch_of fault }
+{
+    match fault {
+        Some(fault) => is_mismatch(fault),
+        None => false,
+    }
+}
+
+/// What is refused of a cell or a test tells whether its bytes are of the type.
+fn is_typed(slot: &Slot, given: Option<&Param>, fault: Option<Fault>) -> bool
+    requires { fault ≡ slot_fault_of slot.now (option_copied given) }
+    ensures { IsWritten slot.now.role → IfGiven (λ bytes. result ≡ fits slot.now.ty bytes) (value_at_of slot.now.stands (option_copied given.entry)) }
+{
+    !tells_mismatch(fault)
+}
+
+/// How many cells stand before the next one of this column.
+fn place_for(cells: &[CellValue], column: u8) -> usize
+    ensures place { result ≡ place_for_of cells.now column }
+    ensures within { result ≤ length cells.now }
+{
+    for (place, cell) in cells.iter().enumerate() {
+        if column < cell.column {
+            return place;
+        }
+    }
+    cells.len()
 }
 
 fn compare_of(operator: TestOperator) -> Compare
@@ -186,12 +238,21 @@ impl Filled {
         Ok(())
     }
 
-    fn add_cell(&mut self, column: usize, value: Option<Option<Bytes>>) -> Result<(), AllocError>
+    /// Adds a cell behind those of its column and of the columns before it.
+    fn add_cell(
+        &mut self,
+        alloc: Global,
+        column: usize,
+        value: Option<Option<Bytes>>,
+    ) -> Result<(), AllocError>
         ensures { OnOk result (self.new ≡ with_cell self.old column value) }
     {
         if let Some(value) = value {
             let column = column_number(column);
-            self.cells.push(CellValue { column, value })?;
+            let place = place_for(self.cells.as_slice(), column);
+            let mut cells = mem::replace(&mut self.cells, Items::new(alloc)).into_vec();
+            cells.insert(place, CellValue { column, value })?;
+            self.cells = Items::from_vec(cells);
         }
         Ok(())
     }
@@ -216,14 +277,16 @@ impl Filled {
         Ok(())
     }
 
-    /// Adds a value by the role of its slot.
+    /// Adds a value by the role of its slot. `typed` says of a cell's or a test's whether its bytes are of the type.
     fn add_value(
         &mut self,
         alloc: Global,
         role: Role,
         ty: CqlType,
+        typed: bool,
         param: Option<&Param>,
     ) -> Result<(), AllocError>
+        requires { IsWritten role → IfGiven (λ bytes. typed ≡ fits ty bytes) (option_copied param) }
         ensures { OnOk result (self.new ≡ by_role self.old role ty (option_copied param.entry)) }
     {
         match role {
@@ -232,11 +295,11 @@ impl Filled {
                 self.add_key(column, operator, value)
             }
             Role::Cell(column) => {
-                let value = written(alloc, ty, param)?;
-                self.add_cell(column, value)
+                let value = written(alloc, ty, typed, param)?;
+                self.add_cell(alloc, column, value)
             }
             Role::Test(column, operator) => {
-                let value = written(alloc, ty, param)?;
+                let value = written(alloc, ty, typed, param)?;
                 self.add_test(column, operator, ty, value)
             }
             Role::Timestamp => {
@@ -255,8 +318,16 @@ impl Filled {
     fn add(&mut self, alloc: Global, slot: &Slot, given: Option<&Param>) -> Result<(), AllocError>
         ensures { OnOk result (self.new ≡ with_slot self.old slot.now (option_copied given.entry)) }
     {
-        self.fault = lower(self.fault, slot_fault(slot, given));
-        self.add_value(alloc, slot.role, slot.ty, value_at(&slot.stands, given))
+        let fault = slot_fault(slot, given);
+        self.fault = lower(self.fault, fault);
+        let typed = is_typed(slot, given, fault);
+        self.add_value(
+            alloc,
+            slot.role,
+            slot.ty,
+            typed,
+            value_at(&slot.stands, given),
+        )
     }
 }
 

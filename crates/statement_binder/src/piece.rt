@@ -49,17 +49,16 @@ pub(crate) fn piece_of(
     alloc: Global,
     timestamp: Option<i64>,
     change: &Change,
-    filled: &Filled,
+    filled: Filled,
 ) -> Result<Piece, AllocError>
-    ensures { IfOk result (λ piece. piece ≡ piece_of_change timestamp change.now filled.now) }
+    ensures { IfOk result (λ piece. piece ≡ piece_of_change timestamp change.now filled) }
 {
     let columns = change.columns.as_slice();
-    let partition = partition(alloc, change, filled)?;
+    let partition = partition(alloc, change, &filled)?;
     let reach = reach_of(alloc, change.action, columns, filled.keys.as_slice())?;
-    let fault = own_fault(change, filled, &partition, &reach);
+    let fault = own_fault(change, &filled, &partition, &reach);
     let timestamp = timestamp_or(filled.timestamp, timestamp);
-    let cells = filled.cells.as_slice();
-    let drafts = drafts_at(alloc, change.action, timestamp, reach, cells)?;
+    let drafts = drafts_at(alloc, change.action, timestamp, reach, filled.cells)?;
     Ok(Piece {
         fault,
         partition,
@@ -98,7 +97,7 @@ pub(crate) fn operation_of(
     let reach = reach_of(alloc, change.action, columns, filled.keys.as_slice())?;
     let fault = own_fault(change, &filled, &partition, &reach);
     let row = reach.row(alloc)?;
-    let changes = drafts_at(alloc, change.action, None, reach, filled.cells.as_slice())?;
+    let changes = drafts_at(alloc, change.action, None, reach, filled.cells)?;
     let shown = copied(alloc, &change.shown)?;
     let operation = ConditionalOperation {
         partition,

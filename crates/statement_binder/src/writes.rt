@@ -58,7 +58,7 @@ fn filled_plan(
     if is_conditional(change.guard) {
         operation(alloc, change, filled, excess)
     } else {
-        write(piece_of(alloc, timestamp, change, &filled)?, excess)
+        write(piece_of(alloc, timestamp, change, filled)?, excess)
     }
 }
 
@@ -80,9 +80,9 @@ fn batch_piece(
     alloc: Global,
     timestamp: Option<i64>,
     change: &Change,
-    filled: &Filled,
+    filled: Filled,
 ) -> Result<Piece, AllocError>
-    ensures { IfOk result (λ piece. piece ≡ batch_piece_of timestamp change.now filled.now) }
+    ensures { IfOk result (λ piece. piece ≡ batch_piece_of timestamp change.now filled) }
 {
     let mut piece = piece_of(alloc, timestamp, change, filled)?;
     piece.fault = lower(condition_fault(change.guard), piece.fault);
@@ -99,7 +99,7 @@ fn next_piece(
     ensures left { OnOk result (left_for supply.new ≡ behind_next (left_for supply.old) change.now.slots) }
 {
     let filled = supply.fill(alloc, change.slots.as_slice())?;
-    batch_piece(alloc, timestamp, change, &filled)
+    batch_piece(alloc, timestamp, change, filled)
 }
 
 /// The statements of a batch, one after another.

@@ -16,7 +16,7 @@ returns-in_err-seats-clause-damaged g c = λ k f p is. c.in_err-seats.ensures.da
 pub returns-clause-holds : goal.returns-clause-holds
 returns-clause-holds g c =
     let m = keeper g.R.Replica.stands_for g.R.Replica.durable g.R.Replica.disk g.R.Replica.is_whole in
-    let p : Parts g.row.R.Denot = record { setting = c.args.setting; seats = c.in_ok-seats.seats; begun = c.and.result; annals = record { mail = c.in_ok-new.field-0; pieces = c.new-3.result } } in
+    let p : Parts g.row.R.Denot = record { setting = c.args.setting; seats = c.in_ok-seats.seats; begun = c.and.result; annals = record { mail = c.in_ok-new.field-0; pieces = c.new-3.result; spare = c.new-4.result } } in
     let records : c.and.result.items ≡ (c.in_ok-seats.seats, tt) ∷ [] = c.and.ensures ∙ ap (λ (xs : List (Vec (Seat g.row.R.Denot) Global × Unit {0})). xs ++ (c.in_ok-seats.seats, tt) ∷ []) c.new.ensures in
     let first = first_seated m c.and.result.items c.in_ok-seats.seats records in
     let entries : entries_in p ≡ [] = ap (λ (xs : List (List Entry)). reverse (joined xs)) c.new-3.ensures.items in
@@ -25,7 +25,7 @@ returns-clause-holds g c =
 pub returns-clause-begins : goal.returns-clause-begins
 returns-clause-begins g c =
     let m = keeper g.R.Replica.stands_for g.R.Replica.durable g.R.Replica.disk g.R.Replica.is_whole in
-    let p : Parts g.row.R.Denot = record { setting = c.args.setting; seats = c.in_ok-seats.seats; begun = c.and.result; annals = record { mail = c.in_ok-new.field-0; pieces = c.new-3.result } } in
+    let p : Parts g.row.R.Denot = record { setting = c.args.setting; seats = c.in_ok-seats.seats; begun = c.and.result; annals = record { mail = c.in_ok-new.field-0; pieces = c.new-3.result; spare = c.new-4.result } } in
     let records : c.and.result.items ≡ (c.in_ok-seats.seats, tt) ∷ [] = c.and.ensures ∙ ap (λ (xs : List (Vec (Seat g.row.R.Denot) Global × Unit {0})). xs ++ (c.in_ok-seats.seats, tt) ∷ []) c.new.ensures in
     let first = first_seated m c.and.result.items c.in_ok-seats.seats records in
     let entries : entries_in p ≡ [] = ap (λ (xs : List (List Entry)). reverse (joined xs)) c.new-3.ensures.items in

@@ -9,7 +9,7 @@ use Rattle.list_replica.proofs.contents.begin.Goals as goal
 pub returns-clause-stored : goal.returns-clause-stored
 returns-clause-stored c =
     ap all_of c.in_ok-insert.ensures.entries
-    ∙ all_inserted c.in_ok-key.key c.reserve.new.self c.args.contents.now.entries (c.reserve.ensures.stored ∙ c.new-content.ensures.stored)
+    ∙ all_inserted c.in_ok-key.key c.reserve_in.new.content c.args.contents.now.entries (c.reserve_in.ensures.stored ∙ c.new-content.ensures.stored)
     (subst (λ (q : Partition). get partition_cmp c.args.contents.now q ≡ None) (sym c.in_ok-key.ensures) c.requires.new)
 
 pub returns-clause-others : goal.returns-clause-others

@@ -1,6 +1,10 @@
+use Rattle.std.proofs.Common.{refl}
+use Rattle.std.proofs.lemmas.Result.{on_ok_weaker}
 use Rattle.list_replica.proofs.Replaying.{data_taken}
 use Rattle.list_replica.proofs.replay.take_data.Goals as goal
 
 pub returns-clause-takes : goal.returns-clause-takes
 returns-clause-takes c =
-    data_taken c.args.contents.now c.reserve.new.contents c.take_in.new.contents c.args.at c.args.mutation c.in_ok-incoming.incoming c.into_vec.result.items c.reserve.ensures.stored c.into_vec.ensures c.in_ok-incoming.ensures c.take_in.ensures.takes c.take_in.ensures.arrivals
+    on_ok_weaker c.load_in.result
+    (λ h. data_taken c.args.loads.now c.args.loads.now c.load_in.new.loads c.args.at c.args.mutation c.in_ok-incoming.incoming c.into_vec.result.items refl c.into_vec.ensures c.in_ok-incoming.ensures h.0 h.1)
+    c.load_in.ensures.takes

@@ -1,5 +1,5 @@
 use Rattle.list_replica.proofs.Gathering.{ready_found}
 use Rattle.list_replica.proofs.staging.fits.Goals as goal
 
-pub length_with-requires : goal.length_with-requires
-length_with-requires c = ready_found c.args.contents.now c.args.staged.now c.in-Some.content.now c.in-Some.ensures.value c.requires
+pub stays_within-requires : goal.stays_within-requires
+stays_within-requires c = ready_found c.args.contents.now c.args.staged.now c.in-Some.content.now c.in-Some.ensures.value c.requires

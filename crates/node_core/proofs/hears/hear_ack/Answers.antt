@@ -2,10 +2,11 @@ use Rattle.std.proofs.Common.{Option, subst}
 use Rattle.node_steps.specs.State.{OpenWrite}
 use Rattle.node_core.specs.declared.slot.Found.{Found}
 use Rattle.node_core.specs.Hearing.{IsOpened}
+use Rattle.node_core.specs.Working.{left_open}
 use Rattle.node_core.proofs.Slots.{moves_none}
 use Rattle.node_core.proofs.hears.hear_ack.Goals as goal
 
 pub returns-in_default : goal.returns-in_default
 returns-in_default c =
-    let none = subst (λ (o : Option (Found OpenWrite)). IsOpened c.args.request c.args.writes.now.entries c.args.slot.now o c.open_write.new.slot) c.in_default.is c.in_ok-found.ensures in
-    record { ok = moves_none _ c.args.request c.args.writes.now.entries c.args.slot.now c.open_write.new.slot c.nothing.result none.0 none.1 c.requires.slot c.nothing.ensures.sends c.nothing.ensures.entries }
+    let none = subst (λ (o : Option (Found OpenWrite)). IsOpened c.args.request (left_open c.args.ended.now c.args.writes.now.entries) c.args.slot.now o c.open_write.new.slot) c.in_default.is c.in_ok-found.ensures in
+    record { ok = moves_none _ c.args.request (left_open c.args.ended.now c.args.writes.now.entries) c.args.slot.now c.open_write.new.slot c.nothing.result none.0 none.1 c.requires.slot c.nothing.ensures.sends c.nothing.ensures.entries }

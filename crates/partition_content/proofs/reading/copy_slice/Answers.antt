@@ -1,23 +1,23 @@
-use Rattle.std.proofs.Common.{◌++◌, sym, subst, List, Contains}
+use Rattle.std.proofs.Common.{◌≡◌, sym, subst, List, Vec, ◌↔◌, Contains}
+use Rattle.std.proofs.lemmas.Result.{IfOk-weaker}
+use Rattle.std.specs.declared.alloc.Global.{Global}
 use Rattle.changes.specs.declared.Held.{Held}
 use Rattle.changes.specs.Places.{AreInOrder}
 use Rattle.changes.specs.Queries.{MeetsBounds}
 use Rattle.partition_content.specs.Slots.{changes_of, helds_in}
-use Rattle.partition_content.specs.Reading.{wide_of}
-use Rattle.partition_content.proofs.ReadLemmas.{Adds, slice_copied}
-use Rattle.partition_content.proofs.SliceLemmas.{wide_in_order, rows_next}
+use Rattle.partition_content.proofs.OrderLemmas.{changes_in_order}
 use Rattle.partition_content.proofs.reading.copy_slice.Goals as goal
 
-pub returns-clause-met : goal.returns-clause-met
-returns-clause-met c =
-    slice_copied c.args.from.now c.args.upto.now (helds_in c.args.slots.now.entries) c.copy_wide.new.onto.items c.copy_rows.new.onto.items c.requires.filed
-    (subst (λ (l : List Held). Adds l c.copy_wide.new.onto.items (λ x. Contains (changes_of (wide_of (helds_in c.args.slots.now.entries))) x × MeetsBounds c.args.from.now c.args.upto.now x.place)) c.new-part.ensures.items c.in_ok-copy_wide.ensures.met)
-    c.in_ok-copy_rows.ensures.met
+pub returns-then-are_outermost-clause-ordered : goal.returns-then-are_outermost-clause-ordered
+returns-then-are_outermost-clause-ordered c =
+    IfOk-weaker c.copy_all.result (λ (all : Vec Held Global). all.items ≡ changes_of (helds_in c.args.slots.now.entries)) (λ all. AreInOrder all.items)
+    (λ all e. subst AreInOrder (sym e) (changes_in_order (helds_in c.args.slots.now.entries) c.requires.filed c.requires.sorted)) c.copy_all.ensures
 
-pub returns-clause-ordered : goal.returns-clause-ordered
-returns-clause-ordered c =
-    c.in_ok-copy_rows.ensures.ordered
-    (rows_next c.args.from.now c.args.upto.now (helds_in c.args.slots.now.entries) c.copy_wide.new.onto.items c.requires.filed c.requires.sorted
-    (subst (λ (l : List Held). Adds l c.copy_wide.new.onto.items (λ x. Contains (changes_of (wide_of (helds_in c.args.slots.now.entries))) x × MeetsBounds c.args.from.now c.args.upto.now x.place)) c.new-part.ensures.items c.in_ok-copy_wide.ensures.met)
-    (c.in_ok-copy_wide.ensures.ordered
-    (subst (λ (l : List Held). AreInOrder (l ++ changes_of (wide_of (helds_in c.args.slots.now.entries)))) (sym c.new-part.ensures.items) (wide_in_order (helds_in c.args.slots.now.entries) c.requires.filed c.requires.sorted))))
+pub returns-then-are_outermost-clause-met : goal.returns-then-are_outermost-clause-met
+returns-then-are_outermost-clause-met c =
+    IfOk-weaker c.copy_all.result (λ (all : Vec Held Global). all.items ≡ changes_of (helds_in c.args.slots.now.entries))
+    (λ all. (x : Held) → Contains all.items x ↔ (Contains (changes_of (helds_in c.args.slots.now.entries)) x × MeetsBounds c.args.from.now c.args.upto.now x.place))
+    (λ all e x. (
+      λ h. (subst (λ (l : List Held). Contains l x) e h, c.are_outermost.ensures c.if-are_outermost.true x.place),
+      λ p. subst (λ (l : List Held). Contains l x) (sym e) p.0,
+    )) c.copy_all.ensures

@@ -6,7 +6,7 @@ use Rattle.row_change.proofs.item.read_items.Goals as goal
 
 pub returns-in_err-item : goal.returns-in_err-item
 returns-in_err-item c =
-    let p = err_from_is_err_and c.from_residual.result c.from_residual.ensures.1 in
+    let p = err_from_is_err_and c.from_residual-in_err-item.result c.from_residual-in_err-item.ensures.1 in
     rw (p.1, p.2)
     (ends item_at kind_of c.in_err-item.field-0.0 c.loop.items.items c.loop.before c.args.count c.loop.counter c.loop.reader.rest.now (counted_items_at c.args.count c.args.reader.now.rest.now) c.loop-test.true c.in_err-item.ensures c.loop.invariant)
 

@@ -5,8 +5,8 @@ use Rattle.list_replica.specs.Memtables.{kept_in}
 use Rattle.list_replica.proofs.Sound.{sound_still, sound_stays_small, sound_first_too_large}
 use Rattle.list_replica.proofs.memtable.Memtable.stage.Goals as goal
 
-pub returns-in_err-reserve_all-clause-sound : goal.returns-in_err-reserve_all-clause-sound
-returns-in_err-reserve_all-clause-sound c = sound_still c.args.self.now _ c.requires.sound c.reserve_all.ensures.ordered c.reserve_all.ensures.stored refl
+pub returns-in_err-within-clause-sound : goal.returns-in_err-within-clause-sound
+returns-in_err-within-clause-sound c = sound_still c.args.self.now _ c.requires.sound c.reserve_all.ensures.ordered c.reserve_all.ensures.stored refl
 
 pub returns-in_err-copy-clause-sound : goal.returns-in_err-copy-clause-sound
 returns-in_err-copy-clause-sound c = sound_still c.args.self.now _ c.requires.sound c.reserve_all.ensures.ordered c.reserve_all.ensures.stored refl

@@ -5,6 +5,7 @@ use Rattle.durable_state.specs.State.{IsSameKept}
 use Rattle.replica.specs.Finding.{AlwaysLeaves}
 use Rattle.list_replica.specs.Memtables.{committed}
 use Rattle.list_replica.specs.Standing.{StandsFor}
+use Rattle.list_replica.proofs.HintFits.{loaded_fit, if_ok_both}
 use Rattle.list_replica.proofs.Wholeness.{stands_loaded, leaves_loaded}
 use Rattle.list_replica.proofs.Refusing.{no_memory_is, same_no_memory, same_failed}
 use Rattle.list_replica.proofs.on_log.ListReplicaReplica.load.Goals as goal
@@ -41,3 +42,7 @@ returns-in-Err-NoMemory-clause-any_moment_no_memory g c s is honest d stands =
 pub returns-in-Err-Failed-clause-surely : goal.returns-in-Err-Failed-clause-surely
 returns-in-Err-Failed-clause-surely g c =
     λ all. absurd ((c.load.ensures.surely 4 0 (omega arith) (all 4)).0 (c.in-Err-Failed.is ∙ ap (λ (e : LogError). Err e) c.in-Err-Failed.field-0-is))
+
+pub returns-in-Ok-clause-hints_fit : goal.returns-in-Ok-clause-hints_fit
+returns-in-Ok-clause-hints_fit g c =
+    if_ok_both c.begin.result c.begin.ensures.committed c.begin.ensures.kept (λ r are is. loaded_fit (committed r.0.memtable) c.in-Ok.entries r.1 c.in-Ok.ensures.fit are is)

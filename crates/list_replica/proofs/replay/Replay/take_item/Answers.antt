@@ -10,7 +10,7 @@ use Rattle.list_replica.proofs.replay.Replay.take_item.Goals as goal
 
 pub returns-in-Data-clause-shows : goal.returns-in-Data-clause-shows
 returns-in-Data-clause-shows c =
-    on_ok_weaker c.take_data.result (λ takes. subst (λ (i : LogItem). ShowsItem i c.args.self.now (record c.args.self.now { contents = c.take_data.new.contents })) (sym c.in-Data.is) (data_shows c.args.self.now c.take_data.new.contents c.in-Data.at c.in-Data.mutation takes c.take_data.ensures.ordered)) c.take_data.ensures.takes
+    on_ok_weaker c.take_data.result (λ takes. subst (λ (i : LogItem). ShowsItem i c.args.self.now (record c.args.self.now { contents = c.take_data.new.loads })) (sym c.in-Data.is) (data_shows c.args.self.now c.take_data.new.loads c.in-Data.at c.in-Data.mutation takes c.take_data.ensures.ordered)) c.take_data.ensures.takes
 
 pub returns-in-Paxos-clause-ordered : goal.returns-in-Paxos-clause-ordered
 returns-in-Paxos-clause-ordered c = subst (λ (m : Map). IsOrdered partition_cmp m) (sym c.set_row.ensures.contents) c.requires
@@ -30,7 +30,7 @@ returns-in-Ceiling-clause-shows c =
 
 pub returns-in-Purge-clause-shows : goal.returns-in-Purge-clause-shows
 returns-in-Purge-clause-shows c =
-    on_ok_weaker c.let_go.result (λ gone. subst (λ (i : LogItem). ShowsItem i c.args.self.now (record c.args.self.now { contents = c.let_go.new.contents })) (sym c.in-Purge.is) (purge_shows c.args.self.now c.let_go.new.contents c.in-Purge.change gone c.let_go.ensures.ordered)) c.let_go.ensures.gone
+    on_ok_weaker c.let_go.result (λ gone. subst (λ (i : LogItem). ShowsItem i c.args.self.now (record c.args.self.now { contents = c.let_go.new.loads })) (sym c.in-Purge.is) (purge_shows c.args.self.now c.let_go.new.loads c.in-Purge.change gone c.let_go.ensures.ordered)) c.let_go.ensures.gone
 
 pub returns-in-Paxos-clause-shows : goal.returns-in-Paxos-clause-shows
 returns-in-Paxos-clause-shows c = on_ok_weaker c.set_row.result (λ shows. subst (λ (i : LogItem). ShowsItem i c.args.self.now c.set_row.new.self) (sym c.in-Paxos.is) shows) c.set_row.ensures.shows

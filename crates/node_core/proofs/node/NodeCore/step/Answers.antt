@@ -4,7 +4,7 @@ use Rattle.node_core.proofs.node.NodeCore.step.Goals as goal
 
 pub returns-clause-ok : goal.returns-clause-ok
 returns-clause-ok g c =
-    steps_told c.advance-result.result c.has_stopped.result c.self.inside.memory c.advance-result.new.memory c.args.self.now (g.R.Replica.durable c.args.replica.now) (g.R.Replica.durable c.advance-result.new.replica) c.args.event g.R.Disk.Store.is_honest c.has_stopped.ensures
+    steps_told c.advance-result.result c.has_stopped.result c.self.inside.memory c.advance-result.new.memory c.args.self.now (g.R.Replica.durable c.args.replica.now) (g.R.Replica.durable c.advance-result.new.replica) c.args.event.now g.R.Disk.Store.is_honest c.has_stopped.ensures
     (running c.self.inside.memory c.self.inside.runs c.args.self.now c.if-not-self.false c.self.view_is) c.advance-result.ensures.ok
 
 pub returns-clause-same : goal.returns-clause-same

@@ -1,0 +1,16 @@
+pub mod Entries
+pub mod Turns
+pub mod Steps
+pub mod Chains
+pub mod Waiting
+pub mod Phases
+pub mod Timeouts
+pub mod Replies
+pub mod Leaving
+pub mod Marking
+pub mod Counting
+pub mod Numbering
+pub mod Refusing
+pub mod Batching
+pub mod Sending
+pub mod Right

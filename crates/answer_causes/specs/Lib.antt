@@ -1,0 +1,9 @@
+pub mod Story
+pub mod Causes
+pub mod Hints
+pub mod Marks
+pub mod Numbers
+pub mod Refusals
+pub mod Batches
+pub mod AnswersRight
+pub mod Laws

@@ -1,0 +1,6 @@
+mod WriteLaws
+mod AskLaws
+mod ExchangeLaws
+mod ResponseLaws
+mod HearLaws
+mod ConversationLaws

@@ -1,0 +1,12 @@
+pub mod Refusals
+pub mod Startup
+pub mod Given
+pub mod Paging
+pub mod PageLaws
+pub mod Outcomes
+pub mod Described
+pub mod Kept
+pub mod Answers
+pub mod Words
+pub mod Sessions
+pub mod Laws
