@@ -1,8 +1,8 @@
 -- The words of a line, from the steps that find them.
 use Rattle.std.proofs.Math.Seq.{drop-cons}
-use Rattle.std.proofs.Common.{map, ◌++◌, append_assoc, ◌≡◌, ◌≢◌, ℕ, ◌+◌, ◌-◌, ◌<◌, take, drop, add-one, Bool, true, false, not, List, [], ◌∷◌, Some, length, filter, cond, get_or, refl, sym, ◌∙◌, ap, eqb, ◌==◌, Bor}
+use Rattle.std.proofs.Common.{map, ◌++◌, append_assoc, ◌≡◌, ◌≢◌, ℕ, ◌+◌, ◌-◌, ◌<◌, take, drop, add-one, Bool, true, not, List, [], ◌∷◌, Some, length, get_or, sym, ◌∙◌, ap, eqb, Bor}
 use Rattle.std.specs.Prelude.{ℤ, ◌&&◌}
-use Rattle.std.specs.List.{slice_split, list_all}
+use Rattle.std.specs.List.{list_all}
 use Rattle.std.specs.Str.Lossy.{utf8_valid_len}
 use Rattle.std.proofs.lemmas.Bool.{and_from, and_parts, eq-eqb, ne_eqb, not_from_false, cond-true}
 use Rattle.std.specs.Str.{bytes_eq}

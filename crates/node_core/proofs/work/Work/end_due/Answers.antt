@@ -1,7 +1,7 @@
 use Rattle.std.proofs.Common.{refl}
 use Rattle.std.proofs.lemmas.Result.{IfOk-weaker}
 use Rattle.node_core.specs.Hinting.{at}
-use Rattle.node_core.proofs.Passing.{deadline_ends, hint_ends}
+use Rattle.node_core.proofs.DueMatters.{deadline_ends, hint_ends}
 use Rattle.node_core.proofs.work.Work.end_due.Goals as goal
 
 pub returns-then-due-eq0-clause-ok : goal.returns-then-due-eq0-clause-ok
