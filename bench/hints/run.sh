@@ -4,6 +4,7 @@
 # Usage: run.sh [TURNS], after `rt run` in crates/biropuve built the program.
 set -euo pipefail
 cd "$(dirname "$0")"
+. ../turns.sh
 turns=${1:-3}
 program=$PWD/../../crates/biropuve/out/biropuve
 folder=$(mktemp -d)
@@ -36,31 +37,19 @@ write_open() {
     }'
 }
 
-# the least microseconds of the turns, whose answers are in "$folder/answers"
-least() {
-    local before micros best=
-    for _ in $(seq "$turns"); do
-        before=$(date +%s%N)
-        "$program" script < "$folder/script" > "$folder/answers"
-        micros=$((($(date +%s%N) - before) / 1000))
-        if [ -z "$best" ] || [ "$micros" -lt "$best" ]; then best=$micros; fi
-    done
-    echo "$best"
-}
-
 for count in 7500 15000 30000 60000; do
     write_hints "$count" > "$folder/script"
     lines=$(wc -l < "$folder/script")
-    micros=$(least)
+    micros=$(least "$program" "$folder/script" "$folder/answers")
     # node 1 shows the rows of the first and of the last partition by itself
     [ "$(tail -n 22 "$folder/answers" | grep -c "^ 'r[0-9]' | 'v[0-9]*'$")" = 20 ] || { echo "hints are missing"; exit 1; }
     awk -v n="$count" -v l="$lines" -v t="$micros" 'BEGIN { printf "%6d hints: %8.1f ms, %6.2f us a line\n", n, t / 1000, t / l }'
 done
 for open in 0 100 1000; do
     write_open "$open" 100000 > "$folder/script"
-    with=$(least)
+    with=$(least "$program" "$folder/script" "$folder/answers")
     write_open "$open" 0 > "$folder/script"
-    without=$(least)
+    without=$(least "$program" "$folder/script" "$folder/answers")
     [ ! -s "$folder/answers" ] || { echo "a read was answered"; exit 1; }
     awk -v n="$open" -v t="$((with - without))" 'BEGIN { printf "100000 clock steps beside %4d open requests: %6.2f us each\n", n, t / 100000 }'
 done

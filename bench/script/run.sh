@@ -5,6 +5,7 @@
 # Usage: run.sh [TURNS], after `rt run` in crates/biropuve built the program. Needs rustc.
 set -euo pipefail
 cd "$(dirname "$0")"
+. ../turns.sh
 turns=${1:-3}
 program=$PWD/../../crates/biropuve/out/biropuve
 folder=$(mktemp -d)
@@ -27,25 +28,15 @@ write_script() {
     }'
 }
 
-# as many puts that wait, then one settling after another over all their messages
+# puts that wait, 1,000 at each node, which is nearly as many as a node takes, and then one settling over all their messages
 write_backlog() {
     awk -v lines="$1" -v head="$head" 'BEGIN {
         print head
-        for (i = 0; i < lines; i++) print "put " i % 3 " QUORUM k" int(i / 10) " r" i % 10 " " i " v" i
-        for (i = 0; i < lines; i += 10000) print "settle 100000"
+        for (i = 0; i < lines; i++) {
+            print "put " i % 3 " QUORUM k" int(i / 10) " r" i % 10 " " i " v" i
+            if (i % 3000 == 2999 || i == lines - 1) print "settle 12000"
+        }
     }'
-}
-
-# the least microseconds of a program's turns, which write its answers into a file
-least() {
-    local before micros best=
-    for _ in $(seq "$turns"); do
-        before=$(date +%s%N)
-        "$1" script < "$folder/script" > "$2"
-        micros=$((($(date +%s%N) - before) / 1000))
-        if [ -z "$best" ] || [ "$micros" -lt "$best" ]; then best=$micros; fi
-    done
-    echo "$best"
 }
 
 instructions() {
@@ -56,8 +47,8 @@ instructions() {
 for kind in write_script write_backlog; do
     for count in 25000 50000 100000 200000; do
         "$kind" "$count" > "$folder/script"
-        proved=$(least "$program" "$folder/answers")
-        plain=$(least "$folder/plain" "$folder/plain_answers")
+        proved=$(least "$program" "$folder/script" "$folder/answers")
+        plain=$(least "$folder/plain" "$folder/script" "$folder/plain_answers")
         cmp "$folder/answers" "$folder/plain_answers"
         awk -v kind="${kind#write_}" -v n="$count" -v t="$proved" -v p="$plain" 'BEGIN {
             printf "%-7s %6d lines: %8.1f ms, %6.2f us each, %5.3f us each by log2 n; plain %8.1f ms; ratio of times %.2f\n",

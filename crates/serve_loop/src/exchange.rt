@@ -39,7 +39,6 @@ fn response_to<R: Wait, D: Desk>(
         Act::Reply(response) => Ok(Some(response)),
         Act::Submit(ask) => ask_for(rt, desk, session, frame.stream, ask),
         // No frame closes its connection, but only what is no frame.
-        // what is due for a frame leaves the connection open
         Act::Close(_) => unreachable!(),
     }
 }
