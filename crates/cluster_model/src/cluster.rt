@@ -4,7 +4,7 @@ ghost use Rattle.std.specs.Prelude.{◌≡◌, ◌≤◌, ◌<◌, ℕ, [], IfOk
 ghost use Rattle.cluster_model.specs.declared.error.ClusterError.TheVariants as cluster_error;
 ghost use Rattle.replica.specs.declared.error.LoadError.TheVariants as load_error;
 ghost use Rattle.cluster_model.specs.Sites.{keeper};
-ghost use Rattle.cluster_model.specs.Annals.{joined};
+ghost use Rattle.chronicle_pieces.specs.Pieces.{joined};
 ghost use Rattle.cluster_model.specs.Holding.{Holds, state_of};
 ghost use Rattle.cluster_model.specs.Beginning.{IsSeated, AreSeated, Begins, IsDamagedAt};
 ghost use Rattle.answer_causes.specs.AnswersRight.{AnswersRight};
@@ -17,11 +17,12 @@ use crate::event::ClusterEvent;
 use crate::mail::Mail;
 use crate::parts::Parts;
 use crate::seat::{Part, Seat};
+use chronicle_pieces::Piece;
 use cs_base::{Micros, NodeId};
 use cs_store::{MemStore, Outcome};
 use http_server::Log;
 use node_core::Node;
-use peer_messages::{Entries, Setting};
+use peer_messages::Setting;
 use replica::{LoadError, MemReplica};
 use std::alloc::{AllocError, Global};
 use std::marker::Model;
@@ -117,13 +118,12 @@ fn parts_of<R: MemReplica>(
         annals: Annals {
             mail: Mail::new(alloc)?,
             pieces: Vec::new(alloc),
-            spare: Vec::new(alloc),
         },
     })
 }
 
 impl<R: MemReplica> Cluster<R> {
-    ghost use Rattle.cluster_model.specs.State.{AreFresh, IsReached, KeepsOn};
+    ghost use Rattle.cluster_model.specs.State.{AreFresh, IsReached, KeepsOn, runs_at};
     ghost use Rattle.cluster_model.specs.Takes.{Takes, Stands};
     ghost use Rattle.cluster_model.specs.Beginning.{AreFormatted, Begins, IsDamagedAt};
 
@@ -163,12 +163,19 @@ impl<R: MemReplica> Cluster<R> {
     }
 
     /// The chronicle so far, the oldest entry first, in pieces.
-    pub fn chronicle(&self) -> &[Entries]
+    pub fn chronicle(&self) -> &[Piece]
         ensures entries { reverse (joined result.now) ≡ self.now.chronicle }
         ensures reached { IsReached self.now }
         ensures right { AreFresh self.now.setting self.now.first → ReadRight self.now.setting self.now.chronicle }
         ensures causes { AreFresh self.now.setting self.now.first → AnswersRight self.now.setting self.now.chronicle }
     {
         &self.parts.annals.pieces
+    }
+
+    /// Whether the node runs. One that isn't of the ring does not.
+    pub fn runs(&self, node: NodeId) -> bool
+        ensures { result ≡ runs_at self.now node }
+    {
+        self.parts.runs(node)
     }
 }

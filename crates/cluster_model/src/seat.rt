@@ -1,20 +1,23 @@
 //! One node of a cluster.
 
-ghost use Rattle.std.specs.Prelude.{◌≡◌, ◌++◌, [], ◌∷◌, Bool, IfOk, OnOk, OnErr};
-ghost use Rattle.peer_messages.specs.Settings.{up_of};
+ghost use Rattle.std.specs.Prelude.{◌≡◌, ◌++◌, ◌≤◌, [], ◌∷◌, Bool, IfOk, OnOk, OnErr};
+ghost use Rattle.std.specs.List.{range_with_len};
 ghost use Rattle.durable_state.specs.State.{Durable};
 ghost use Rattle.cluster_model.specs.Takes.{event_at};
 ghost use Rattle.cluster_model.specs.Faults.{is_failure, planned};
 ghost use Rattle.cs_store.specs.Disk.{Passes, Stays};
 ghost use Rattle.cs_store.specs.Mem.{disk_of, plan_of};
 ghost use Rattle.cluster_model.specs.Sites.{keeper, Crashed, HasLeft, MayTake, MayWake, StopsBy, StaysAt, TellsBy, Turns, Loads, Puts, WakesBy, SleepsBy};
+ghost use Rattle.cluster_model.specs.State.{is_up};
+ghost use Rattle.cluster_model.specs.Holding.{showing_of};
 
 use crate::told::{Told, has_failure, has_halt, tell_all};
 use crate::turn::Turn;
-use cs_base::{Items, Micros, NodeId};
+use chronicle_pieces::Alive;
+use cs_base::{Micros, NodeId};
 use cs_store::{FileNo, MemStore, Outcome, Store};
 use node_core::{Node, StepError};
-use peer_messages::{Event, Invalid, NodeIds, Refusal, Setting, What, is_in};
+use peer_messages::{Event, Invalid, Refusal, Setting, What};
 use replica::{LoadError, MemReplica};
 use std::alloc::{AllocError, Global};
 use std::mem;
@@ -100,14 +103,6 @@ fn fallen_part<R: MemReplica>(part: Part<R>) -> (Part<R>, bool)
     }
 }
 
-/// Those of all nodes that are not among these.
-fn alive_of(mut nodes: Vec<NodeId>, down: &[NodeId]) -> NodeIds
-    ensures { result ≡ up_of down.now nodes.items }
-{
-    nodes.retain(|node| !is_in(down, *node));
-    Items::from_vec(nodes)
-}
-
 /// The store of a replica is told a fault.
 fn tell<R: MemReplica>(replica: &mut R, fault: Told)
     ensures plan { plan_of (R.disk replica.new) ≡ planned fault (plan_of (R.disk replica.old)) }
@@ -142,6 +137,13 @@ fn load<R: MemReplica>(
 }
 
 impl<R: MemReplica> Seat<R> {
+    /// Whether the node runs.
+    pub fn runs(&self) -> bool
+        ensures { result ≡ is_up (showing_of (keeper R.stands_for R.durable R.disk R.is_whole) self.now.part) }
+    {
+        matches!(self.part, Part::Runs(_))
+    }
+
     /// The node crashes. One that is down stays so.
     pub fn stop(&mut self, outcome: Outcome)
         ensures part { StopsBy (keeper R.stands_for R.durable R.disk R.is_whole) self.old.part self.new.part }
@@ -153,6 +155,17 @@ impl<R: MemReplica> Seat<R> {
         self.told.clear();
     }
 
+    /// The node whose step failed is down. It tells whether it was its store that stopped it.
+    fn fall(&mut self) -> bool
+        ensures part { StopsBy (keeper R.stands_for R.durable R.disk R.is_whole) self.old.part self.new.part }
+        ensures clock { self.new.clock ≡ self.old.clock }
+        ensures told { self.new.told ≡ self.old.told }
+    {
+        let (part, is_stopped) = fallen_part(mem::replace(&mut self.part, Part::Lent));
+        self.part = part;
+        is_stopped
+    }
+
     /// The node whose step failed is down. It tells whether a call failed, and none stopped it.
     fn halt(&mut self) -> bool
         ensures part { StopsBy (keeper R.stands_for R.durable R.disk R.is_whole) self.old.part self.new.part }
@@ -160,22 +173,17 @@ impl<R: MemReplica> Seat<R> {
         ensures told { self.new.told.items ≡ [] }
         ensures failed { (stopped : Bool) × (result ≡ is_failure self.old.told.items stopped) }
     {
-        let (part, is_stopped) = fallen_part(mem::replace(&mut self.part, Part::Lent));
-        self.part = part;
+        let is_stopped = self.fall();
         let has_failed = has_failure(&self.told) && !(has_halt(&self.told) && is_stopped);
         self.told.clear();
         has_failed
     }
 
-    /// The node takes an event, in a cluster of these nodes. At an error nothing has happened.
-    pub fn take(
-        &mut self,
-        alloc: Global,
-        nodes: Vec<NodeId>,
-        what: What,
-    ) -> Result<Turn, AllocError>
-        requires { MayTake (keeper R.stands_for R.durable R.disk R.is_whole) self.old.part }
-        ensures ok { IfOk result (λ turn. Turns (keeper R.stands_for R.durable R.disk R.is_whole) nodes.items self.old (event_at self.old.clock what) turn self.new) }
+    /// The node takes an event, in a cluster of so many nodes. At an error nothing has happened.
+    pub fn take(&mut self, alloc: Global, nodes: u8, what: What) -> Result<Turn, AllocError>
+        requires few { nodes ≤ 7 }
+        requires part { MayTake (keeper R.stands_for R.durable R.disk R.is_whole) self.old.part }
+        ensures ok { IfOk result (λ turn. Turns (keeper R.stands_for R.durable R.disk R.is_whole) (range_with_len 0 nodes) self.old (event_at self.old.clock what) turn self.new) }
         ensures err { OnErr result (StaysAt (keeper R.stands_for R.durable R.disk R.is_whole) self.old self.new) }
     {
         let event = Event {
@@ -186,7 +194,7 @@ impl<R: MemReplica> Seat<R> {
             return Ok(Turn::Refused(Refusal::Down));
         };
         match node.step(alloc, event) {
-            Ok(outputs) => Ok(Turn::Stepped(outputs, alive_of(nodes, node.core.down()))),
+            Ok(outputs) => Ok(Turn::Stepped(outputs, Alive::beside(nodes, node.core.down()))),
             Err(StepError::Failed(lost)) => Ok(Turn::Stopped(lost, self.halt())),
             Err(StepError::NoRoom) => Ok(Turn::Refused(Refusal::Overloaded)),
             Err(StepError::TooLarge(_)) => Ok(Turn::Refused(Refusal::Invalid(

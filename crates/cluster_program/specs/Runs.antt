@@ -1,5 +1,5 @@
 -- A text that is the run of a script in print.
-use Rattle.std.specs.Prelude.{◌≡◌, ℕ, Option, Some, None, List, [], ◌∷◌, map}
+use Rattle.std.specs.Prelude.{◌≡◌, ℕ, Bool, true, false, Option, Some, None, List, [], ◌∷◌, map}
 use Rattle.answer_causes.specs.AnswersRight.{AnswersRight}
 use Rattle.read_consistency.specs.ReadRight.{ReadRight}
 use Rattle.schema_book.specs.Books.{Book}
@@ -23,6 +23,15 @@ named_by e keyspace = keyspace
 abbrev pub newest : List Entry → Option Entry
 newest [] = None
 newest (e ∷ earlier) = Some e
+
+-- the name that an entry gives
+abbrev pub name_in : Option Entry → Option (List ℕ)
+name_in None = None
+name_in (Some e) = named_by e None
+
+abbrev pub is_nothing : List Entry → Bool
+is_nothing [] = true
+is_nothing (e ∷ earlier) = false
 
 abbrev pub named_by_any : Option Entry → Option (List ℕ) → Option (List ℕ)
 named_by_any None keyspace = keyspace

@@ -180,7 +180,7 @@ fn numbered_line(alloc: Global, number: u64, text: &str) -> Result<Vec<u8>, Allo
     ensures { IfOk result (λ line. line.items ≡ decimal number ++ (text.now ++ 10 ∷ [])) }
 {
     let mut line = Vec::new(alloc);
-    push_number(alloc, &mut line, number)?;
+    push_number(&mut line, number)?;
     line.extend_from_slice(text.as_bytes())?;
     line.push(b'\n')?;
     Ok(line)
@@ -190,9 +190,9 @@ fn cql_line(alloc: Global, number: u64, at: usize) -> Result<Vec<u8>, AllocError
     ensures { IfOk result (λ line. line.items ≡ error_line_of (ScriptError.Cql number at)) }
 {
     let mut line = Vec::new(alloc);
-    push_number(alloc, &mut line, number)?;
+    push_number(&mut line, number)?;
     line.extend_from_slice(b": cql refused at ")?;
-    push_number(alloc, &mut line, at as u64)?;
+    push_number(&mut line, at as u64)?;
     line.push(b'\n')?;
     Ok(line)
 }

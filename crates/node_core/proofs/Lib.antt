@@ -3,6 +3,8 @@ mod Sending
 mod Slots
 mod LeftOpen
 mod DueKeys
+mod Timeouts
+mod DueMatters
 mod Passing
 mod Hinting
 mod Asking

@@ -6,6 +6,7 @@ use Rattle.node_steps.specs.State.{OpenWrite, OpenRead}
 use Rattle.node_steps.specs.Writes.{write_told, unheard}
 use Rattle.node_steps.specs.Reads.{read_timeout, replies_of, read_needs}
 use Rattle.node_core.specs.declared.base.Base.{Base}
+use Rattle.node_core.specs.declared.due.DueKind.TheVariants.{Deadline}
 use Rattle.node_core.specs.declared.due.DueKey.{DueKey}
 use Rattle.node_core.specs.declared.work.Given.{Given}
 use Rattle.node_core.specs.declared.work.Work.{Work}
@@ -44,11 +45,11 @@ pub record IsNext (id : ReqId) (w : Work) : Type 0 where
 -- ---- what is due
 
 abbrev pub IsNextDue : DueKey → Work → Type 0
-IsNextDue k w = k.number ≡ 0 → IsNext k.request w
+IsNextDue k w = k.kind ≡ Deadline → IsNext k.request w
 
 -- of these requests each was there before, or its deadline is this
 abbrev pub EndedBy : DueKey → List ReqId → List ReqId → Type 0
-EndedBy k ids ids' = (e : ReqId) → Contains ids' e → Contains ids e ⊎ ((k.number ≡ 0) × (e ≡ k.request))
+EndedBy k ids ids' = (e : ReqId) → Contains ids' e → Contains ids e ⊎ ((k.kind ≡ Deadline) × (e ≡ k.request))
 
 pub record EndsDue (b : Base) (k : DueKey) (x x' : Stage) : Type 0 where
   pub one : (d : Durable) → EndsOne b d x (act_by k) x'

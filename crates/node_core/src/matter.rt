@@ -38,27 +38,22 @@ pub(crate) fn request_of(me: NodeId, time: Micros, what: &What) -> ReqId
 }
 
 impl Work {
-    /// A step that has made nothing yet.
-    pub(crate) fn new(
-        base: &Base,
-        alloc: Global,
-        time: Micros,
-        ceiling: Micros,
-        request: ReqId,
-    ) -> Work
-        ensures fresh { IsFresh base.now result }
-        ensures times { (result.time ≡ time) × (result.ceiling ≡ ceiling) × (result.request ≡ request) }
-    {
+    /// Before the first step.
+    pub(crate) fn nothing(alloc: Global) -> Work {
+        let time = Micros::new(0);
         Work {
             time,
-            ceiling,
-            request,
+            ceiling: time,
+            request: ReqId {
+                node: NodeId::FIRST,
+                time,
+            },
             marked: None,
             batches: None,
             ended_writes: Items::new(alloc),
             ended_reads: Items::new(alloc),
-            unanswered: base.unanswered,
-            open_reads: base.reads.len(),
+            unanswered: 0,
+            open_reads: 0,
             write: Slot::Untouched,
             read: Slot::Untouched,
             taken: Items::new(alloc),
@@ -68,6 +63,37 @@ impl Work {
             entries: Items::new(alloc),
             queue: VecDeque::new(alloc),
         }
+    }
+
+    /// Begins a step that has made nothing yet. What another left, which was not kept, goes.
+    pub(crate) fn begin(
+        &mut self,
+        base: &Base,
+        alloc: Global,
+        time: Micros,
+        ceiling: Micros,
+        request: ReqId,
+    )
+        ensures fresh { IsFresh base.now self.new }
+        ensures times { (self.new.time ≡ time) × (self.new.ceiling ≡ ceiling) × (self.new.request ≡ request) }
+    {
+        self.time = time;
+        self.ceiling = ceiling;
+        self.request = request;
+        self.marked = None;
+        self.batches = None;
+        self.ended_writes = Items::new(alloc);
+        self.ended_reads = Items::new(alloc);
+        self.unanswered = base.unanswered;
+        self.open_reads = base.reads.len();
+        self.write = Slot::Untouched;
+        self.read = Slot::Untouched;
+        self.taken = Items::new(alloc);
+        self.made = Items::new(alloc);
+        self.gone = Items::new(alloc);
+        self.messages = Items::new(alloc);
+        self.entries = Items::new(alloc);
+        self.queue.clear();
     }
 
     /// Marks a node, which is of the ring. Where it is marked alive its first hints are sent.

@@ -16,7 +16,7 @@ ghost use Rattle.node_core.specs.Memory.{has_stopped as has_stopped_of, IsLoaded
 ghost use Rattle.node_core.specs.declared.outcome.StepError.TheVariants as step_error;
 
 use crate::base::Base;
-use crate::memory::{Memory, advance};
+use crate::memory::{Made, Memory, advance};
 use crate::outcome::{Lost, StepError};
 use cs_base::{Items, NodeId};
 use hint_store::HintStore;
@@ -104,6 +104,7 @@ impl NodeCore {
                 time: ceiling,
                 kept,
                 hints,
+                made: Made::nothing(alloc),
             },
             runs: true,
         })

@@ -35,8 +35,7 @@ returns c = all_due c.args.base.now c.args.hints.now.now c.args.time c.deref.res
   reads = λ id. subst (λ (ids : List ReqId). Contains ids id ↔ (Contains (keys_of c.args.base.now.reads.entries) id × (is_due_at c.args.time id ≡ true))) (sym (c.deref-2.ensures.value ∙ c.in_ok-reads.ensures))
       (front_of c.args.time c.args.base.now.me c.args.base.now.reads c.requires.holding.reads c.requires.holding.own_reads id);
   expired = λ x. subst (λ (xs : List Expired). Contains xs x ↔ ((h : Hint) × Contains c.args.hints.now.now.hints h × IsExpired c.args.base.now.setting.expiry c.args.time h × (x ≡ expired_of h))) (sym c.as_slice.ensures) (c.in_ok-expired.ensures.each x);
-  numbers = c.in_ok-add_expired.ensures.numbers;
   keys_are = λ d. keys_found c.new-due.result.keys c.add_deadlines.new.due.keys c.add_deadlines-2.new.due.keys c.add_expired.new.due.keys (IsDeadlineKey c.deref.result.now) (IsDeadlineKey c.deref-2.result.now) (IsExpiryKey c.args.base.now.me c.args.base.now.setting.expiry c.as_slice.result.now) d
-      c.new-due.ensures.empty (c.in_ok-add_deadlines.ensures d) (c.in_ok-add_deadlines-2.ensures d) (c.in_ok-add_expired.ensures.each d);
-  ordered = c.len-in_order.ensures.ordered;
+      c.new-due.ensures.empty (c.in_ok-add_deadlines.ensures d) (c.in_ok-add_deadlines-2.ensures d) (c.in_ok-add_expired.ensures d);
+  ordered = c.stands_in_order.ensures;
 })
