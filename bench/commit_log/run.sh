@@ -3,14 +3,14 @@
 # folder, in turns; after each turn a second process loads the replica again and compares what it finds with what was committed.
 # Then commits that renew rows over memory, beside more and more rows. Then loads of logs of nearly 64 MiB, beside a C program
 # that reads the file and decodes its entries plainly, in turns.
-# Usage: run.sh FOLDER [COUNT [TURNS [LOADS]]], after `rt run` in crates/list_replica_bench built the program.
+# Usage: run.sh FOLDER [COUNT [TURNS [LOADS]]], after `rt run` in crates/storage_bench built the program.
 set -euo pipefail
 cd "$(dirname "$0")"
 folder=${1:?a folder on the disk to measure}
 count=${2:-300}
 turns=${3:-40}
 loads=${4:-5}
-program=../../crates/list_replica_bench/out/list_replica_bench
+program=../../crates/storage_bench/out/storage_bench
 work=$(mktemp -d)
 made=$(mktemp -d -p /dev/shm)
 trap 'rm -rf "$folder/log" "$folder/plain" "$work" "$made"' EXIT
@@ -21,7 +21,7 @@ mkdir -p "$folder"
 # Loads the replica again in a second process, which compares so many rows with what it finds.
 read_again() {
     local rows=$1 found
-    found=$("$program" read "$folder/log" "$rows" "$2")
+    found=$("$program" replicas read "$folder/log" "$rows" "$2")
     [ "$found" = "$rows rows in $(((rows + 999) / 1000)) partitions, as they were committed" ] || { echo "found: $found"; exit 1; }
     echo "loaded again by a second process: $found"
 }
@@ -39,13 +39,13 @@ commits() {
     local ours theirs
     for _ in $(seq "$turns"); do
         rm -rf "$folder/log"
-        ours=$("$program" append "$folder/log" "$count")
+        ours=$("$program" replicas append "$folder/log" "$count")
         theirs=$("$work/plain" "$folder/plain" "$count")
         awk -v n="$count" -v a="$ours" -v b="$theirs" 'BEGIN { print a / n / 1e3, b / n }' >>"$work/commits"
         read_again "$count" 2 >"$work/found"
     done
     cat "$work/found"
-    if "$program" read "$folder/log" $((count + 1)) >/dev/null 2>&1; then
+    if "$program" replicas read "$folder/log" $((count + 1)) >/dev/null 2>&1; then
         echo "a row that was not committed is not missed"
         exit 1
     fi
@@ -55,7 +55,7 @@ commits() {
 # The middle one of many commits; of several turns, the least.
 renewals() {
     local rows=$1
-    for _ in $(seq "$loads"); do "$program" memory "$rows" 1000; done | sort -n | head -1 | awk -v r="$rows" '{
+    for _ in $(seq "$loads"); do "$program" replicas memory "$rows" 1000; done | sort -n | head -1 | awk -v r="$rows" '{
         printf "a commit over memory beside %7d rows: %.2f us\n", r, $1 / 1e3 }'
 }
 
@@ -70,16 +70,16 @@ busy() {
 log() {
     local rows=$1 each=$2 width=$3 ours theirs
     rm -rf "$folder/log" "$work/loads" "$work/busy"
-    "$program" append "$made/log" "$rows" "$each" "$width" >/dev/null
+    "$program" replicas append "$made/log" "$rows" "$each" "$width" >/dev/null
     mv "$made/log" "$folder/log"
     sync "$folder/log/0"
     read_again "$rows" "$width"
     for _ in $(seq "$loads"); do
-        ours=$("$program" load "$folder/log")
+        ours=$("$program" replicas load "$folder/log")
         theirs=$("$work/decode" "$folder/log/0")
         [ "${theirs#* }" = "$rows" ] || { echo "plainly decoded: ${theirs#* } changes"; exit 1; }
         awk -v a="$ours" -v b="${theirs% *}" 'BEGIN { print a / 1e6, b / 1e3 }' >>"$work/loads"
-        echo "$(busy "$program" load "$folder/log") $(busy "$work/decode" "$folder/log/0")" >>"$work/busy"
+        echo "$(busy "$program" replicas load "$folder/log") $(busy "$work/decode" "$folder/log/0")" >>"$work/busy"
     done
     echo "a load of $(stat -c %s "$folder/log/0") bytes, entries of $each changes, values of $((8 * width)) bytes: $(tell "$work/loads" ms)"
     echo "the time of a processor that both programs took from start to end: $(tell "$work/busy" ms)"

@@ -1,5 +1,5 @@
 //! A parser of CQL statements in plain Rust, by recursive descent over a list of tokens, and the same measurement as
-//! `crates/cql_parser_bench`: `plain ROUNDS`.
+//! `protocol_bench statements`: `plain ROUNDS`.
 
 // What is read is counted, and not looked into.
 #![allow(dead_code)]
@@ -9,7 +9,7 @@ use std::time::Instant;
 
 const TURNS: u32 = 7;
 
-/// The statements of `crates/cql_parser_bench`.
+/// The statements of `protocol_bench statements`.
 const STATEMENTS: &str = include_str!("statements.cql");
 
 #[derive(Clone, Copy, Debug, PartialEq, Eq)]

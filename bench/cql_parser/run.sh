@@ -1,21 +1,21 @@
 #!/usr/bin/env bash
 # Statements a second of the proved parser and of a plain one, over the same statements: run.sh [ROUNDS]
 # The two run in turn, several times, and the fastest turn of each counts. Needs rt and rustc on the path, and proves
-# cql_parser_bench first, where that was not done yet.
+# protocol_bench first, where that was not done yet.
 set -euo pipefail
 here=$(cd "$(dirname "$0")" && pwd)
-crate=$here/../../crates/cql_parser_bench
+crate=$here/../../crates/protocol_bench
 rounds=${1:-20000}
 
 (cd "$crate" && rt run >/dev/null 2>&1)
-proved=$crate/out/cql_parser_bench
+proved=$crate/out/protocol_bench
 work=$(mktemp -d)
 trap 'rm -rf "$work"' EXIT
 plain=$work/plain
 rustc -O --edition 2021 -o "$plain" "$here/plain.rs"
 
 for _ in 1 2 3; do
-    "$proved" "$rounds" >>"$work/proved.out"
+    "$proved" statements "$rounds" >>"$work/proved.out"
     "$plain" "$rounds" >>"$work/plain.out"
 done
 if ! cmp -s <(grep '^statements' "$work/proved.out") <(grep '^statements' "$work/plain.out"); then

@@ -1,5 +1,5 @@
 //! Decodes QUERY and EXECUTE bodies and encodes Rows of 100 rows in plain Rust: the same measurement as
-//! `crates/frame_bodies_bench`: `plain COUNT`.
+//! `protocol_bench bodies`: `plain COUNT`.
 
 use std::hint::black_box;
 use std::time::Instant;

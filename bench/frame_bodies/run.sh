@@ -1,14 +1,14 @@
 #!/usr/bin/env bash
 # Bodies a second of the proved codecs and of plain ones, over the same bodies: run.sh [COUNT]
 # The two run in turn, several times, and the fastest turn of each counts. Needs rt and rustc on the path, and proves
-# frame_bodies_bench first, where that was not done yet.
+# protocol_bench first, where that was not done yet.
 set -euo pipefail
 here=$(cd "$(dirname "$0")" && pwd)
-crate=$here/../../crates/frame_bodies_bench
+crate=$here/../../crates/protocol_bench
 count=${1:-1000000}
 
 (cd "$crate" && rt run >/dev/null 2>&1)
-proved=$crate/out/frame_bodies_bench
+proved=$crate/out/protocol_bench
 work=$(mktemp -d)
 trap 'rm -rf "$work"' EXIT
 plain=$work/plain
@@ -17,7 +17,7 @@ rustc -O --edition 2021 -A dead_code -o "$plain" "$here/plain.rs"
 : >"$work/proved.out"
 : >"$work/plain.out"
 for _ in 1 2 3; do
-    "$proved" "$count" >>"$work/proved.out"
+    "$proved" bodies "$count" >>"$work/proved.out"
     "$plain" "$count" >>"$work/plain.out"
 done
 if ! cmp -s <(grep ':' "$work/proved.out") <(grep ':' "$work/plain.out"); then

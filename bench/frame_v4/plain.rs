@@ -1,4 +1,4 @@
-//! A framer of requests in plain Rust, and the same measurement as `crates/frame_bench`: `plain FRAMES PIECE_LENGTH`.
+//! A framer of requests in plain Rust, and the same measurement as `protocol_bench frames`: `plain FRAMES PIECE_LENGTH`.
 
 use std::hint::black_box;
 use std::time::Instant;

@@ -1,10 +1,10 @@
 #!/usr/bin/env bash
 # Bytes a second of the proved framer and of a plain one, over the same stream: run.sh [FRAMES [PIECE_LENGTH]..]
 # The two run in turn, several times, and the fastest turn of each counts. Needs rt and rustc on the path, and proves
-# frame_bench first, where that was not done yet.
+# protocol_bench first, where that was not done yet.
 set -euo pipefail
 here=$(cd "$(dirname "$0")" && pwd)
-crate=$here/../../crates/frame_bench
+crate=$here/../../crates/protocol_bench
 frames=${1:-1000000}
 shift || true
 pieces=("$@")
@@ -13,7 +13,7 @@ if [ ${#pieces[@]} -eq 0 ]; then
 fi
 
 (cd "$crate" && rt run >/dev/null 2>&1)
-proved=$crate/out/frame_bench
+proved=$crate/out/protocol_bench
 work=$(mktemp -d)
 trap 'rm -rf "$work"' EXIT
 plain=$work/plain
@@ -23,7 +23,7 @@ for piece in "${pieces[@]}"; do
     : >"$work/proved.out"
     : >"$work/plain.out"
     for _ in 1 2 3; do
-        "$proved" "$frames" "$piece" >>"$work/proved.out"
+        "$proved" frames "$frames" "$piece" >>"$work/proved.out"
         "$plain" "$frames" "$piece" >>"$work/plain.out"
     done
     if ! cmp -s <(grep '^frames' "$work/proved.out") <(grep '^frames' "$work/plain.out"); then

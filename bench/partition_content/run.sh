@@ -1,17 +1,17 @@
 #!/usr/bin/env bash
 # Cells applied one by one to what is kept of one partition, ten to a row: how the time grows with their number. Where it
 # grows as n log n the last column stays about the same. Then as many cells to one row.
-# Usage: run.sh [TURNS], after `rt run` in crates/partition_content_bench built the program.
+# Usage: run.sh [TURNS], after `rt run` in crates/storage_bench built the program.
 set -euo pipefail
 cd "$(dirname "$0")"
 turns=${1:-3}
-program=../../crates/partition_content_bench/out/partition_content_bench
+program=../../crates/storage_bench/out/storage_bench
 
 # The least microseconds of some turns.
 best() {
     local best= micros
     for turn in $(seq "$turns"); do
-        micros=$("$program" "$1" "$2")
+        micros=$("$program" contents "$1" "$2")
         if [ -z "$best" ] || [ "$micros" -lt "$best" ]; then best=$micros; fi
     done
     echo "$best"

@@ -1,4 +1,4 @@
-//! The codec of mutations in plain Rust, and the same measurement as `crates/row_change_bench`:
+//! The codec of mutations in plain Rust, and the same measurement as `storage_bench mutations`:
 //! `plain CHANGES VALUE_LENGTH REPEATS`.
 
 use std::cmp::Ordering;

@@ -3,16 +3,16 @@
 # one to a row. It should grow with the logarithm alone.
 # Then merges of two contents of so many cells: equal ones, which are seen in one walk; ones of which the second has one cell
 # more; and ones of which the second wins in each cell. The time should grow with n log n at most.
-# Usage: run.sh [TURNS], after `rt run` in crates/row_select_bench built the program.
+# Usage: run.sh [TURNS], after `rt run` in crates/storage_bench built the program.
 set -euo pipefail
 cd "$(dirname "$0")"
 turns=${1:-3}
 queries=100000
-program=../../crates/row_select_bench/out/row_select_bench
+program=../../crates/storage_bench/out/storage_bench
 
 # The least of the microseconds that some runs with these words write.
 best() {
-    for turn in $(seq "$turns"); do "$program" "$@"; done | sort -n | head -n 1
+    for turn in $(seq "$turns"); do "$program" queries "$@"; done | sort -n | head -n 1
 }
 
 for cells in 1000 10000 100000 1000000; do

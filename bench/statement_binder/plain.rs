@@ -1,6 +1,6 @@
 //! An INSERT of five columns, prepared once and filled with values so often, in plain Rust: `plain [ROUNDS]`.
 //!
-//! It does what `statement_binder_bench` does: it looks at each value's type and size, makes the partition's key and token and
+//! It does what `protocol_bench bindings` does: it looks at each value's type and size, makes the partition's key and token and
 //! the row's bytes, the changes in their order, and their size as they are stored.
 
 use std::collections::BTreeMap;

@@ -1,21 +1,21 @@
 #!/usr/bin/env bash
 # Statements a second that the proved binder and a plain one fill, prepared once: run.sh [ROUNDS]
 # The two run in turn, several times, and the fastest turn of each counts. Needs rt and rustc on the path, and proves
-# statement_binder_bench first, where that was not done yet.
+# protocol_bench first, where that was not done yet.
 set -euo pipefail
 here=$(cd "$(dirname "$0")" && pwd)
-crate=$here/../../crates/statement_binder_bench
+crate=$here/../../crates/protocol_bench
 rounds=${1:-1000000}
 
 (cd "$crate" && rt run >/dev/null 2>&1)
-proved=$crate/out/statement_binder_bench
+proved=$crate/out/protocol_bench
 work=$(mktemp -d)
 trap 'rm -rf "$work"' EXIT
 plain=$work/plain
 rustc -O --edition 2021 -o "$plain" "$here/plain.rs"
 
 for _ in 1 2 3; do
-    "$proved" "$rounds" >>"$work/proved.out"
+    "$proved" bindings "$rounds" >>"$work/proved.out"
     "$plain" "$rounds" >>"$work/plain.out"
 done
 if ! cmp -s <(grep '^changes' "$work/proved.out") <(grep '^changes' "$work/plain.out"); then

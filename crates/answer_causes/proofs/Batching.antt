@@ -6,12 +6,13 @@ use Rattle.cs_base.specs.declared.ids.ReqId.{ReqId}
 use Rattle.cs_base.specs.declared.level.Level.{Level}
 use Rattle.cs_base.proofs.Members.{contains_here, contains_there, contains_map, contains_filter, contains_flat}
 use Rattle.cs_base.proofs.Slots.{get_set}
+use Rattle.changes.specs.declared.Mutation.{Mutation}
 use Rattle.row_change.specs.declared.entry.Hint as hint
 use Rattle.peer_messages.specs.declared.event.Event.{Event}
 use Rattle.peer_messages.specs.declared.event.Plan.{Plan}
 use Rattle.peer_messages.specs.declared.event.Plan.TheVariants as plan
 use Rattle.peer_messages.specs.declared.message.Body.{Body}
-use Rattle.peer_messages.specs.declared.message.Body.TheVariants.{Write, WriteAck, Read, ReadReply, Hint, HintAck}
+use Rattle.peer_messages.specs.declared.message.Body.TheVariants.{Write, WriteAck, Read, ReadReply, Mend, MendAck, Hint, HintAck}
 use Rattle.peer_messages.specs.declared.chronicle.Refusal.{Refusal}
 use Rattle.peer_messages.specs.declared.outcome.Outbound.{Outbound}
 use Rattle.peer_messages.specs.declared.outcome.Outputs.{Outputs}
@@ -21,10 +22,12 @@ use Rattle.node_steps.specs.State.{NodeState, Batch, OpenWrite, OpenRead, loaded
 use Rattle.node_steps.specs.Effects.{Effects, nothing, open_at}
 use Rattle.node_steps.specs.Hints.{first_hints, number_of, send_hint, sends_hints, waiting_of, with_batch, with_sent, is_last, hint_done, hint_acked}
 use Rattle.node_steps.specs.Requests.{refusal_of, BeginsOrRefuses}
-use Rattle.node_steps.specs.Acts.{Act, Rises, Hears, Asks, Marks, DeadlineComes, HintExpires, Incoming, Deed, Does, HearsBody, Ends, EndsRead, Chain, request_at, is_old, asker_of}
+use Rattle.node_steps.specs.Acts.{Act, Rises, Hears, Asks, Marks, DeadlineComes, HintExpires, Incoming, Deed, Does, HearsBody, Ends, EndsRead, Chain, request_at, is_old, asker_of, TakesChanges}
 use Rattle.node_steps.specs.Acts.Chain.{begun, own as own_move, matter as matter_move}
 use Rattle.node_steps.specs.Steps.{NodeStep, matters_of, message_of, messages_of, sends_of}
 use Rattle.node_steps.proofs.HintMembers.{first_from}
+use Rattle.node_steps.specs.Replicas.{Asker}
+use Rattle.node_steps.specs.Fitting.{write_fits}
 use Rattle.cluster_runs.specs.World.{World, Standing, Running, Down, Made}
 use Rattle.cluster_runs.specs.Run.{Run}
 use Rattle.cluster_runs.specs.Run.RunFrom.{begun as fresh, more as went_on, stopped_in, stopped, load, load_failed, turned}
@@ -96,11 +99,17 @@ ack_batch c s a n q =
     (λ same. subst (λ (i : ℕ). waiting_of r.batches i ≡ (if is_last_of (waiting_of s.batches i) n then next_of c r i else behind_ack (waiting_of s.batches i) n)) same (ack_here c (is_last s a n) s a n))
     (λ other. ack_other c (is_last s a n) s a n q other)
 
+merge_batch : (q : ℕ) (a : Asker) (m : Mutation) (fits : Bool) (s : NodeState) (o : Effects) (s' : NodeState) → MatchBool fits (TakesChanges a m.partition m.changes MendAck s o s') ((o ≡ nothing) × (s' ≡ s)) → waiting_of s'.batches q ≡ waiting_of s.batches q
+merge_batch q a m true s o s' h = of_batches q s s' _ h.3 refl
+merge_batch q a m false s o s' h = of_batches q s s' s h.1 refl
+
 body_batch : (c : Setting) (k q : ℕ) (m : Incoming) (b : Body) (s : NodeState) (o : Effects) (s' : NodeState) → HearsBody c k (asker_of m) b s o s' → waiting_of s'.batches q ≡ batch_by_body q m.from b (next_of c s' q) (waiting_of s.batches q)
 body_batch c k q m (Write u) s o s' h = of_batches q s s' _ h.3 refl
 body_batch c k q m WriteAck s o s' h = of_batches q s s' _ h.3 refl
 body_batch c k q m (Read r) s o s' h = of_batches q s s' _ h.3 refl
 body_batch c k q m (ReadReply content) s o s' h = of_batches q s s' _ h.3 refl
+body_batch c k q m (Mend u) s o s' h = merge_batch q (asker_of m) u (write_fits c u) s o s' h
+body_batch c k q m MendAck s o s' h = of_batches q s s' _ h.3 refl
 body_batch c k q m (Hint number u) s o s' h = of_batches q s s' _ h.3 refl
 body_batch c k q m (HintAck n) s o s' h =
     subst (λ (x : NodeState). waiting_of x.batches q ≡ batch_by_body q m.from (HintAck n) (next_of c x q) (waiting_of s.batches q)) (sym h.1) (ack_batch c s m.from n q)

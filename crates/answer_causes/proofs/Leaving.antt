@@ -15,7 +15,7 @@ use Rattle.peer_messages.specs.declared.event.Plan.TheVariants as plan
 use Rattle.peer_messages.specs.declared.event.What.{What}
 use Rattle.peer_messages.specs.declared.event.What.TheVariants.{Client, Deliver, Alive, Collect, Flush, Tick}
 use Rattle.peer_messages.specs.declared.message.Body.{Body}
-use Rattle.peer_messages.specs.declared.message.Body.TheVariants.{Write, WriteAck, Read, ReadReply, Hint, HintAck}
+use Rattle.peer_messages.specs.declared.message.Body.TheVariants.{Write, WriteAck, Read, ReadReply, Mend, MendAck, Hint, HintAck}
 use Rattle.peer_messages.specs.declared.chronicle.Entry.{Entry}
 use Rattle.peer_messages.specs.declared.chronicle.Refusal.{Refusal}
 use Rattle.peer_messages.specs.declared.outcome.Outputs.{Outputs}
@@ -24,14 +24,15 @@ use Rattle.durable_state.specs.State.{Durable, IsSameKept, hints_of, last_of}
 use Rattle.durable_state.specs.Keeping.{without_hint, with_last}
 use Rattle.node_steps.specs.State.{NodeState, OpenWrite, OpenRead, loaded, fresh_node}
 use Rattle.node_steps.specs.Effects.{Effects, nothing, open_at}
-use Rattle.node_steps.specs.Fitting.{message_fits, mark_fits}
+use Rattle.node_steps.specs.Fitting.{message_fits, mark_fits, write_fits}
 use Rattle.node_steps.specs.Hints.{KeptHints, hints_in, is_full, next_hint, with_hint, push_hint, push_hints, is_kept, drop_hint, with_sent, is_last, hint_done}
 use Rattle.node_steps.specs.Requests.{refusal_of, hinted_at, BeginsOrRefuses}
 use Rattle.node_steps.specs.Writes.{unheard}
-use Rattle.node_steps.specs.Acts.{Act, Rises, Hears, Asks, Marks, DeadlineComes, HintExpires, Incoming, Deed, Does, HearsBody, Ends, EndsRead, Chain, mark_state, request_at, is_old, asker_of}
+use Rattle.node_steps.specs.Acts.{Act, Rises, Hears, Asks, Marks, DeadlineComes, HintExpires, Incoming, Deed, Does, HearsBody, Ends, EndsRead, Chain, mark_state, request_at, is_old, asker_of, TakesChanges}
 use Rattle.node_steps.specs.Acts.Chain.{begun, own, matter as matter_move}
 use Rattle.node_steps.specs.Steps.{NodeStep, Due, AreDue, act_of, matter_of, is_ahead, looked_at, time_after}
 use Rattle.node_steps.proofs.HintLists.{last_here, last_rises}
+use Rattle.node_steps.specs.Replicas.{Asker}
 use Rattle.cluster_runs.specs.World.{World, Standing, Running, Down, Made, left_by}
 use Rattle.cluster_runs.specs.Run.{Run, IsMade}
 use Rattle.cluster_runs.specs.Run.RunFrom.{begun as fresh, more as went_on, stopped_in, stopped, load, load_failed, turned}
@@ -171,11 +172,17 @@ acked_hints : (c : Setting) (b : Bool) (s : NodeState) (peer number : ℕ) → h
 acked_hints c true s peer number = refl
 acked_hints c false s peer number = refl
 
+merge_grows : (L : ℕ → ℕ → Type 0) (a : Asker) (m : Mutation) (fits : Bool) (s : NodeState) (o : Effects) (s' : NodeState) → MatchBool fits (TakesChanges a m.partition m.changes MendAck s o s') ((o ≡ nothing) × (s' ≡ s)) → MovesOf L s s'
+merge_grows L a m true s o s' h = to_grow L s s' _ h.3 (grows_same L (hints_in s))
+merge_grows L a m false s o s' h = to_grow L s s' s h.1 (grows_same L (hints_in s))
+
 body_grows : (c : Setting) (k : ℕ) (m : Incoming) (b : Body) (s : NodeState) (o : Effects) (s' : NodeState) → m.body ≡ b → HearsBody c k (asker_of m) b s o s' → MovesOf (Leaves (Hears m)) s s'
 body_grows c k m (Write u) s o s' is h = to_grow _ s s' _ h.3 (grows_same _ (hints_in s))
 body_grows c k m WriteAck s o s' is h = to_grow _ s s' _ h.3 (grows_same _ (hints_in s))
 body_grows c k m (Read q) s o s' is h = to_grow _ s s' _ h.3 (grows_same _ (hints_in s))
 body_grows c k m (ReadReply content) s o s' is h = to_grow _ s s' _ h.3 (grows_same _ (hints_in s))
+body_grows c k m (Mend u) s o s' is h = merge_grows _ (asker_of m) u (write_fits c u) s o s' h
+body_grows c k m MendAck s o s' is h = to_grow _ s s' _ h.3 (grows_same _ (hints_in s))
 body_grows c k m (Hint number u) s o s' is h = to_grow _ s s' _ h.3 (grows_same _ (hints_in s))
 body_grows c k m (HintAck number) s o s' is h =
     to_grow (Leaves (Hears m)) s s' _ h.1 (subst (λ (r : KeptHints). Grows (Leaves (Hears m)) (hints_in s) r) (sym (acked_hints c (is_last s m.from number) s m.from number))

@@ -8,6 +8,9 @@ pub mod Timeouts
 pub mod Replies
 pub mod Leaving
 pub mod Marking
+pub mod Counts
+pub mod Firsts
+pub mod Reading
 pub mod Counting
 pub mod Numbering
 pub mod Refusing

@@ -12,7 +12,7 @@ use Rattle.peer_messages.specs.declared.event.Plan.TheVariants as plan
 use Rattle.peer_messages.specs.declared.event.What.{What}
 use Rattle.peer_messages.specs.declared.event.What.TheVariants.{Client, Deliver, Alive, Collect, Flush, Tick}
 use Rattle.peer_messages.specs.declared.message.Body.{Body}
-use Rattle.peer_messages.specs.declared.message.Body.TheVariants.{Write, WriteAck, Read, ReadReply, Hint, HintAck}
+use Rattle.peer_messages.specs.declared.message.Body.TheVariants.{Write, WriteAck, Read, ReadReply, Mend, MendAck, Hint, HintAck}
 use Rattle.peer_messages.specs.declared.message.Message.{Message}
 use Rattle.peer_messages.specs.declared.chronicle.Refusal.{Refusal}
 use Rattle.peer_messages.specs.declared.outcome.Outputs.{Outputs}
@@ -22,14 +22,16 @@ use Rattle.node_steps.specs.State.{NodeState, OpenWrite, OpenRead, loaded, fresh
 use Rattle.node_steps.specs.Effects.{Effects, nothing, open_at}
 use Rattle.node_steps.specs.Hints.{with_sent, is_last, hint_done}
 use Rattle.node_steps.specs.Requests.{refusal_of, BeginsOrRefuses}
-use Rattle.node_steps.specs.Acts.{Act, Rises, Hears, Asks, Marks, DeadlineComes, HintExpires, Incoming, Deed, Does, HearsBody, Ends, EndsRead, Chain, request_at, is_old, asker_of}
+use Rattle.node_steps.specs.Acts.{Act, Rises, Hears, Asks, Marks, DeadlineComes, HintExpires, Incoming, Deed, Does, HearsBody, Ends, EndsRead, Chain, request_at, is_old, asker_of, TakesChanges}
 use Rattle.node_steps.specs.Acts.Chain.{begun, own as own_move, matter as matter_move}
 use Rattle.node_steps.specs.Steps.{NodeStep, act_of, matter_of, is_ahead, time_after}
-use Rattle.node_steps.specs.Fitting.{message_fits, mark_fits}
+use Rattle.node_steps.specs.Fitting.{message_fits, mark_fits, write_fits}
+use Rattle.node_steps.specs.Replicas.{Asker}
 use Rattle.cluster_runs.specs.World.{World, Standing, Running, Down, Made}
 use Rattle.cluster_runs.specs.Run.{Run}
 use Rattle.cluster_runs.specs.Run.RunFrom.{begun as fresh, more as went_on, stopped_in, stopped, load, load_failed, turned}
 use Rattle.cs_base.proofs.Slots.{get_set}
+use Rattle.changes.specs.declared.Mutation.{Mutation}
 use Rattle.cluster_runs.proofs.Lists.{all_same}
 use Rattle.answer_causes.specs.Story.{Happening, Step, Halt, Load, story}
 use Rattle.peer_messages.specs.declared.event.Ask.{Ask}
@@ -46,11 +48,17 @@ acked_down : (c : Setting) (b : Bool) (s : NodeState) (peer number : ℕ) → (i
 acked_down c true s peer number = refl
 acked_down c false s peer number = refl
 
+merge_down : (a : Asker) (m : Mutation) (fits : Bool) (s : NodeState) (o : Effects) (s' : NodeState) → MatchBool fits (TakesChanges a m.partition m.changes MendAck s o s') ((o ≡ nothing) × (s' ≡ s)) → s'.down ≡ s.down
+merge_down a m true s o s' h = of_down s s' _ h.3 refl
+merge_down a m false s o s' h = of_down s s' s h.1 refl
+
 body_down : (c : Setting) (k : ℕ) (m : Incoming) (b : Body) (s : NodeState) (o : Effects) (s' : NodeState) → HearsBody c k (asker_of m) b s o s' → s'.down ≡ s.down
 body_down c k m (Write u) s o s' h = of_down s s' _ h.3 refl
 body_down c k m WriteAck s o s' h = of_down s s' _ h.3 refl
 body_down c k m (Read q) s o s' h = of_down s s' _ h.3 refl
 body_down c k m (ReadReply content) s o s' h = of_down s s' _ h.3 refl
+body_down c k m (Mend u) s o s' h = merge_down (asker_of m) u (write_fits c u) s o s' h
+body_down c k m MendAck s o s' h = of_down s s' _ h.3 refl
 body_down c k m (Hint number u) s o s' h = of_down s s' _ h.3 refl
 body_down c k m (HintAck number) s o s' h = of_down s s' _ h.1 (acked_down c (is_last s m.from number) s m.from number)
 

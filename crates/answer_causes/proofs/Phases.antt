@@ -13,7 +13,7 @@ use Rattle.peer_messages.specs.declared.setting.Setting.{Setting}
 use Rattle.node_steps.specs.State.{NodeState, OpenWrite, OpenRead}
 use Rattle.node_steps.specs.Effects.{Effects, nothing, open_at}
 use Rattle.node_steps.specs.Writes.{acks_of, write_needs}
-use Rattle.node_steps.specs.Reads.{replies_of, read_needs}
+use Rattle.node_steps.specs.Reads.{replies_of, read_needs, received_of}
 use Rattle.node_steps.specs.Acts.{Act, Rises, Hears, Asks, Marks, DeadlineComes, HintExpires, Deed, Does, Ends, EndsRead, Chain, own_sends}
 use Rattle.node_steps.specs.Acts.Chain.{begun, own, matter}
 use Rattle.cluster_runs.proofs.Submissions.{same_request}
@@ -150,7 +150,7 @@ one_told false es r id refusal test is timeout some =
 ends_read_told : (c : Setting) (r id : ReqId) (x : Option OpenRead) (s : NodeState) (o : Effects) (s' : NodeState) → EndsRead c r x s o s' → answers_to o.entries id ≢ 0 → TellsTimeout o.entries id
 ends_read_told c r id None s o s' h some = absurd (none_told o.entries [] id (ap (λ (x : Effects). x.entries) h.0) refl some)
 ends_read_told c r id (Some x) s o s' h some =
-    one_told (is_request r id) o.entries r id (ReadTimeout (replies_of c x) (read_needs c x) (nat_lt 0 (replies_of c x))) refl (ap (λ (x : Effects). x.entries) h.0) tt some
+    one_told (is_request r id) o.entries r id (ReadTimeout (received_of c x) (read_needs c x) (nat_lt 0 (replies_of c x))) refl (ap (λ (x : Effects). x.entries) h.0) tt some
 
 write_end_told : (b : Bool) (es : List Entry) (r id : ReqId) (refusal : Refusal) → es ≡ (if b then [] else Refused r refusal ∷ []) → IsTimeout refusal → answers_to es id ≢ 0 → TellsTimeout es id
 write_end_told true es r id refusal is timeout some = absurd (none_told es [] id is refl some)

@@ -9,7 +9,7 @@ use Rattle.peer_messages.specs.declared.event.Event.{Event}
 use Rattle.peer_messages.specs.declared.event.What.{What}
 use Rattle.peer_messages.specs.declared.event.What.TheVariants.{Deliver, Alive, Tick}
 use Rattle.peer_messages.specs.declared.message.Body.{Body}
-use Rattle.peer_messages.specs.declared.message.Body.TheVariants.{Write, WriteAck, Read, ReadReply, Hint, HintAck}
+use Rattle.peer_messages.specs.declared.message.Body.TheVariants.{Write, WriteAck, Read, ReadReply, Mend, MendAck, Hint, HintAck}
 use Rattle.peer_messages.specs.declared.message.Message.{Message}
 use Rattle.peer_messages.specs.declared.outcome.Outbound.{Outbound}
 use Rattle.peer_messages.specs.declared.outcome.Outputs.{Outputs}
@@ -53,9 +53,11 @@ not_refused c s e m t is near young =
 reply_is : (changes : List Change) (b r : Body) → IsForReplica b → IsAnswer changes b r → IsReply b r
 reply_is changes (Write m) r for h = h
 reply_is changes (Read q) r for h = (h.0, h.2)
+reply_is changes (Mend m) r for h = h
 reply_is changes (Hint number m) r for h = h
 reply_is changes WriteAck r for h = absurd for
 reply_is changes (ReadReply content) r for h = absurd for
+reply_is changes MendAck r for h = absurd for
 reply_is changes (HintAck number) r for h = absurd for
 
 step_answers : (c : Setting) (k : ℕ) (s : NodeState) (hs : List Happening) (e : Event) (deeds : List Deed) (o : Outputs) (s' : NodeState) → IsFaithful k s hs → NodeStep c k s e deeds o s' → AnswersAtOnce c k e deeds o hs

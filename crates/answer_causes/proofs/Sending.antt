@@ -14,7 +14,7 @@ use Rattle.peer_messages.specs.declared.event.Event.{Event}
 use Rattle.peer_messages.specs.declared.event.Plan.{Plan}
 use Rattle.peer_messages.specs.declared.event.Plan.TheVariants as plan
 use Rattle.peer_messages.specs.declared.message.Body.{Body}
-use Rattle.peer_messages.specs.declared.message.Body.TheVariants.{Write, WriteAck, Read, ReadReply, Hint, HintAck}
+use Rattle.peer_messages.specs.declared.message.Body.TheVariants.{Write, WriteAck, Read, ReadReply, Mend, MendAck, Hint, HintAck}
 use Rattle.peer_messages.specs.declared.message.Message.{Message}
 use Rattle.peer_messages.specs.declared.outcome.Move.{Move}
 use Rattle.peer_messages.specs.declared.outcome.Outbound.{Outbound}
@@ -25,11 +25,13 @@ use Rattle.node_steps.specs.State.{NodeState, OpenWrite, OpenRead}
 use Rattle.node_steps.specs.Effects.{Effects, nothing, outbound, send_to, open_at, Takes}
 use Rattle.node_steps.specs.Hints.{first_hints, send_hint, sends_hints, waiting_of, is_last, hint_done}
 use Rattle.node_steps.specs.Writes.{HearsAck}
-use Rattle.node_steps.specs.Reads.{HearsReply, TellsRows, MergesReply, is_stray, replies_of, read_needs}
+use Rattle.node_steps.specs.Reads.{HearsReply, TellsRows, MergesReply, is_stray, replies_of, read_needs, AwaitsMends, mends, differing, HearsMendAck, is_awaited, mended_by, mend_of}
 use Rattle.node_steps.specs.Requests.{refusal_of, BeginsOrRefuses}
-use Rattle.node_steps.specs.Acts.{Act, Rises, Hears, Asks, Marks, DeadlineComes, HintExpires, Incoming, Deed, Does, HearsBody, Ends, EndsRead, request_at, is_old, asker_of}
+use Rattle.node_steps.specs.Acts.{Act, Rises, Hears, Asks, Marks, DeadlineComes, HintExpires, Incoming, Deed, Does, HearsBody, Ends, EndsRead, request_at, is_old, asker_of, TakesChanges}
 use Rattle.node_steps.specs.Steps.{NodeStep, matters_of, message_of, sends_of}
 use Rattle.node_steps.proofs.HintMembers.{first_from}
+use Rattle.node_steps.specs.Replicas.{Asker}
+use Rattle.node_steps.specs.Fitting.{write_fits}
 use Rattle.cluster_runs.specs.World.{World}
 use Rattle.cluster_runs.specs.Run.{Run}
 use Rattle.cluster_runs.specs.Run.RunFrom.{begun as fresh, more as went_on, stopped_in, stopped, load, load_failed, turned}
@@ -64,17 +66,33 @@ quiet_none turn is = subst (λ (t : Move). NoHint t.sends) (sym is) none_sent
 rows_none : (id : ReqId) (r : OpenRead) (turn : Move) → TellsRows id r turn → NoHint turn.sends
 rows_none id r turn (rows, more, shown, is) = subst (λ (t : Move). NoHint t.sends) (sym is) none_sent
 
-counts_none : (b : Bool) (id : ReqId) (r r' : OpenRead) (turn : Move) → MatchBool b ((turn ≡ quiet_move) × (r' ≡ r)) (TellsRows id r turn) → NoHint turn.sends
-counts_none true id r r' turn h = quiet_none turn h.0
-counts_none false id r r' turn h = rows_none id r turn h
+awaits_none : (id : ReqId) (r r' : OpenRead) (ks : List ℕ) (sent turn : Move) → NoHint sent.sends → AwaitsMends id r ks sent turn r' → NoHint turn.sends
+awaits_none id r r' [] sent turn none h = rows_none id r turn h
+awaits_none id r r' (k ∷ ks) sent turn none h = subst (λ (t : Move). NoHint t.sends) (sym h.0) none
+
+counts_none : (b : Bool) (c : Setting) (id : ReqId) (r r' : OpenRead) (turn : Move) → MatchBool b ((turn ≡ quiet_move) × (r' ≡ r)) (AwaitsMends id r (differing c r) (mends id r (differing c r)) turn r') → NoHint turn.sends
+counts_none true c id r r' turn h = quiet_none turn h.0
+counts_none false c id r r' turn h = awaits_none id r r' (differing c r) (mends id r (differing c r)) turn (to_none id (Mend (mend_of r)) (differing c r) (λ n m e. cc)) h
 
 merges_none : (b : Bool) (c : Setting) (id : ReqId) (from : ℕ) (content : List Held) (r r' : OpenRead) (turn : Move) → MatchBool b ((turn ≡ quiet_move) × (r' ≡ r)) (MergesReply c id from content r turn r') → NoHint turn.sends
 merges_none true c id from content r r' turn h = quiet_none turn h.0
-merges_none false c id from content r r' turn (n, is, merge, counts) = counts_none (nat_lt (replies_of c n) (read_needs c n)) id n r' turn counts
+merges_none false c id from content r r' turn (n, is, merge, counts) = counts_none (nat_lt (replies_of c n) (read_needs c n)) c id n r' turn counts
 
 replies_none : (c : Setting) (id : ReqId) (from : ℕ) (content : List Held) (xs xs' : List (ReqId × OpenRead)) (o : Option OpenRead) (turn : Move) → Takes (HearsReply c id from content) id xs o turn xs' → NoHint turn.sends
 replies_none c id from content xs xs' None turn h = quiet_none turn h.0
 replies_none c id from content xs xs' (Some r) turn (r', step, same) = merges_none (is_stray c from r) c id from content r r' turn step
+
+mends_none : (b : Bool) (id : ReqId) (r r' : OpenRead) (ks : List ℕ) (turn : Move) → MatchBool b (AwaitsMends id r ks quiet_move turn r') ((turn ≡ quiet_move) × (r' ≡ r)) → NoHint turn.sends
+mends_none true id r r' ks turn h = awaits_none id r r' ks quiet_move turn none_sent h
+mends_none false id r r' ks turn h = quiet_none turn h.0
+
+mended_none : (c : Setting) (id : ReqId) (from : ℕ) (xs xs' : List (ReqId × OpenRead)) (o : Option OpenRead) (turn : Move) → Takes (HearsMendAck c id from) id xs o turn xs' → NoHint turn.sends
+mended_none c id from xs xs' None turn h = quiet_none turn h.0
+mended_none c id from xs xs' (Some r) turn (r', step, same) = mends_none (is_awaited r.mending from) id r r' (mended_by r.mending from) turn step
+
+merge_none : (a : Asker) (m : Mutation) (fits : Bool) (s : NodeState) (o : Effects) (s' : NodeState) → MatchBool fits (TakesChanges a m.partition m.changes MendAck s o s') ((o ≡ nothing) × (s' ≡ s)) → NoHint o.sends
+merge_none a m true s o s' h = by_sends o _ h.2 (to_none a.request MendAck (a.from ∷ []) (λ i j e. cc))
+merge_none a m false s o s' h = by_sends o _ h.0 none_sent
 
 asks_none : (c : Setting) (id : ReqId) (p : Plan) (l : Level) (r : Option Refusal) (s : NodeState) (o : Effects) (s' : NodeState) → BeginsOrRefuses c id p l r s o s' → NoHint o.sends
 asks_none c id (plan.Write d) l None s o s' h = by_sends o _ h.0 (to_none id (Write (mutation_of id d)) _ (λ n m e. cc))
@@ -134,6 +152,8 @@ body_sender c k m (Write w) s o s' y n u body young h there is = absurd (by_send
 body_sender c k m WriteAck s o s' y n u body young (turn, moves, same, rest) there is = absurd (by_sends o _ same (acks_none c m.request m.from s.writes s'.writes (open_at s.writes m.request) turn moves) y n u there is)
 body_sender c k m (Read q) s o s' y n u body young h there is = absurd (by_sends o _ h.2 (to_none m.request (ReadReply h.0) (m.from ∷ []) (λ i j e. cc)) y n u there is)
 body_sender c k m (ReadReply content) s o s' y n u body young (turn, moves, same, rest) there is = absurd (by_sends o _ same (replies_none c m.request m.from content s.reads s'.reads (open_at s.reads m.request) turn moves) y n u there is)
+body_sender c k m (Mend w) s o s' y n u body young h there is = absurd (merge_none (asker_of m) w (write_fits c w) s o s' h y n u there is)
+body_sender c k m MendAck s o s' y n u body young (turn, moves, same, rest) there is = absurd (by_sends o _ same (mended_none c m.request m.from s.reads s'.reads (open_at s.reads m.request) turn moves) y n u there is)
 body_sender c k m (Hint number w) s o s' y n u body young h there is = absurd (by_sends o _ h.2 (to_none m.request (HintAck number) (m.from ∷ []) (λ i j e. cc)) y n u there is)
 body_sender c k m (HintAck number) s o s' y n u body young h there is = ack_sender c k m number s o s' y body young h there
 

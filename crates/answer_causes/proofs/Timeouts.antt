@@ -9,6 +9,7 @@ use Rattle.cs_base.specs.declared.level.Level.{Level}
 use Rattle.changes.specs.declared.Held.{Held}
 use Rattle.changes.specs.declared.Partition.{Partition}
 use Rattle.changes.specs.Drafts.{mutation_of}
+use Rattle.changes.specs.declared.Mutation.{Mutation}
 use Rattle.cs_base.proofs.Members.{contains_nil, contains_here, contains_there, contains_cases, contains_one, contains_map, contains_from_map, contains_from_flat}
 use Rattle.peer_messages.specs.declared.event.Plan.{Plan}
 use Rattle.peer_messages.specs.declared.event.Plan.TheVariants as plan
@@ -16,7 +17,7 @@ use Rattle.peer_messages.specs.declared.event.Event.{Event}
 use Rattle.peer_messages.specs.declared.event.What.{What}
 use Rattle.peer_messages.specs.declared.event.What.TheVariants.{Client, Deliver, Alive, Collect, Flush, Tick}
 use Rattle.peer_messages.specs.declared.message.Body.{Body}
-use Rattle.peer_messages.specs.declared.message.Body.TheVariants.{Write, WriteAck, Read, ReadReply, Hint, HintAck}
+use Rattle.peer_messages.specs.declared.message.Body.TheVariants.{Write, WriteAck, Read, ReadReply, Mend, MendAck, Hint, HintAck}
 use Rattle.peer_messages.specs.declared.chronicle.Entry.{Entry}
 use Rattle.peer_messages.specs.declared.chronicle.Entry.TheVariants.{Submitted, Acked, Refused, Used, Began, Rows}
 use Rattle.peer_messages.specs.declared.chronicle.Invalid.{Invalid as invalid}
@@ -32,10 +33,10 @@ use Rattle.node_steps.specs.State.{NodeState, OpenWrite, OpenRead}
 use Rattle.node_steps.specs.Effects.{Effects, nothing, open_at, Takes}
 use Rattle.node_steps.specs.Replicas.{Asker}
 use Rattle.node_steps.specs.Writes.{HearsAck, heard_write, is_enough, ack_told}
-use Rattle.node_steps.specs.Reads.{HearsReply, TellsRows, MergesReply, is_stray, heard_by, replies_of, read_needs}
+use Rattle.node_steps.specs.Reads.{HearsReply, TellsRows, MergesReply, is_stray, heard_by, replies_of, read_needs, AwaitsMends, mends, differing, HearsMendAck, is_awaited, mended_by}
 use Rattle.node_steps.specs.Fitting.{write_fits, query_fits, message_fits, mark_fits}
 use Rattle.node_steps.specs.Requests.{refusal_of, refusal_at, is_serial, is_overloaded, alive_of, BeginsOrRefuses}
-use Rattle.node_steps.specs.Acts.{Act, Rises, Hears, Asks, Marks, DeadlineComes, HintExpires, Incoming, Deed, Does, HearsBody, Ends, EndsRead, Chain, request_at, is_old, asker_of}
+use Rattle.node_steps.specs.Acts.{Act, Rises, Hears, Asks, Marks, DeadlineComes, HintExpires, Incoming, Deed, Does, HearsBody, Ends, EndsRead, Chain, request_at, is_old, asker_of, TakesChanges}
 use Rattle.node_steps.specs.Acts.Chain.{begun, own, matter}
 use Rattle.node_steps.specs.Steps.{NodeStep, Due, AreDue, act_of, matter_of, is_ahead, looked_at, time_after, entries_of}
 use Rattle.cluster_runs.specs.World.{World}
@@ -172,23 +173,41 @@ rows_none id r turn (rows, more, shown, is) =
 quiet_none : (turn : Move) → turn ≡ quiet_move → NoTimeout turn.entries
 quiet_none turn is = subst (λ (t : Move). NoTimeout t.entries) (sym is) no_entries
 
-counts_none : (b : Bool) (id : ReqId) (r r' : OpenRead) (turn : Move) → MatchBool b ((turn ≡ quiet_move) × (r' ≡ r)) (TellsRows id r turn) → NoTimeout turn.entries
-counts_none true id r r' turn h = quiet_none turn h.0
-counts_none false id r r' turn h = rows_none id r turn h
+awaits_none : (id : ReqId) (r r' : OpenRead) (ks : List ℕ) (sent turn : Move) → NoTimeout sent.entries → AwaitsMends id r ks sent turn r' → NoTimeout turn.entries
+awaits_none id r r' [] sent turn none h = rows_none id r turn h
+awaits_none id r r' (k ∷ ks) sent turn none h = subst (λ (t : Move). NoTimeout t.entries) (sym h.0) none
+
+counts_none : (b : Bool) (c : Setting) (id : ReqId) (r r' : OpenRead) (turn : Move) → MatchBool b ((turn ≡ quiet_move) × (r' ≡ r)) (AwaitsMends id r (differing c r) (mends id r (differing c r)) turn r') → NoTimeout turn.entries
+counts_none true c id r r' turn h = quiet_none turn h.0
+counts_none false c id r r' turn h = awaits_none id r r' (differing c r) (mends id r (differing c r)) turn no_entries h
 
 merges_none : (b : Bool) (c : Setting) (id : ReqId) (from : ℕ) (content : List Held) (r r' : OpenRead) (turn : Move) → MatchBool b ((turn ≡ quiet_move) × (r' ≡ r)) (MergesReply c id from content r turn r') → NoTimeout turn.entries
 merges_none true c id from content r r' turn h = quiet_none turn h.0
-merges_none false c id from content r r' turn (n, is, merge, counts) = counts_none (nat_lt (replies_of c n) (read_needs c n)) id n r' turn counts
+merges_none false c id from content r r' turn (n, is, merge, counts) = counts_none (nat_lt (replies_of c n) (read_needs c n)) c id n r' turn counts
 
 replies_none : (c : Setting) (id : ReqId) (from : ℕ) (content : List Held) (xs xs' : List (ReqId × OpenRead)) (o : Option OpenRead) (turn : Move) → Takes (HearsReply c id from content) id xs o turn xs' → NoTimeout turn.entries
 replies_none c id from content xs xs' None turn h = quiet_none turn h.0
 replies_none c id from content xs xs' (Some r) turn (r', step, same) = merges_none (is_stray c from r) c id from content r r' turn step
+
+mends_none : (b : Bool) (id : ReqId) (r r' : OpenRead) (ks : List ℕ) (turn : Move) → MatchBool b (AwaitsMends id r ks quiet_move turn r') ((turn ≡ quiet_move) × (r' ≡ r)) → NoTimeout turn.entries
+mends_none true id r r' ks turn h = awaits_none id r r' ks quiet_move turn no_entries h
+mends_none false id r r' ks turn h = quiet_none turn h.0
+
+mended_none : (c : Setting) (id : ReqId) (from : ℕ) (xs xs' : List (ReqId × OpenRead)) (o : Option OpenRead) (turn : Move) → Takes (HearsMendAck c id from) id xs o turn xs' → NoTimeout turn.entries
+mended_none c id from xs xs' None turn h = quiet_none turn h.0
+mended_none c id from xs xs' (Some r) turn (r', step, same) = mends_none (is_awaited r.mending from) id r r' (mended_by r.mending from) turn step
+
+merge_none : (a : Asker) (m : Mutation) (fits : Bool) (s : NodeState) (o : Effects) (s' : NodeState) → MatchBool fits (TakesChanges a m.partition m.changes MendAck s o s') ((o ≡ nothing) × (s' ≡ s)) → NoTimeout o.entries
+merge_none a m true s o s' h = by_effects o _ h.2 no_entries
+merge_none a m false s o s' h = by_effects o _ h.0 no_entries
 
 body_none : (c : Setting) (me : ℕ) (a : Asker) (b : Body) (s : NodeState) (o : Effects) (s' : NodeState) → HearsBody c me a b s o s' → NoTimeout o.entries
 body_none c me a (Write m) s o s' h = by_effects o _ h.2 no_entries
 body_none c me a WriteAck s o s' (turn, moves, is, same) = by_effects o _ is (acks_none c a.request a.from s.writes s'.writes (open_at s.writes a.request) turn moves)
 body_none c me a (Read q) s o s' h = by_effects o _ h.2 no_entries
 body_none c me a (ReadReply content) s o s' (turn, moves, is, same) = by_effects o _ is (replies_none c a.request a.from content s.reads s'.reads (open_at s.reads a.request) turn moves)
+body_none c me a (Mend m) s o s' h = merge_none a m (write_fits c m) s o s' h
+body_none c me a MendAck s o s' (turn, moves, is, same) = by_effects o _ is (mended_none c a.request a.from s.reads s'.reads (open_at s.reads a.request) turn moves)
 body_none c me a (Hint number m) s o s' h = by_effects o _ h.2 no_entries
 body_none c me a (HintAck number) s o s' h = by_effects o _ h.0 no_entries
 

@@ -7,11 +7,12 @@ use Rattle.cs_base.specs.declared.ids.ReqId.{ReqId}
 use Rattle.cs_base.specs.declared.level.Level.{Level}
 use Rattle.cs_base.specs.Requests.{request_cmp, is_request}
 use Rattle.changes.specs.declared.Held.{Held}
+use Rattle.changes.specs.declared.Mutation.{Mutation}
 use Rattle.peer_messages.specs.declared.event.Ask.{Ask}
 use Rattle.peer_messages.specs.declared.event.Plan.{Plan}
 use Rattle.peer_messages.specs.declared.event.Plan.TheVariants as plan
 use Rattle.peer_messages.specs.declared.message.Body.{Body}
-use Rattle.peer_messages.specs.declared.message.Body.TheVariants.{Write, WriteAck, Read, ReadReply, Hint, HintAck}
+use Rattle.peer_messages.specs.declared.message.Body.TheVariants.{Write, WriteAck, Read, ReadReply, Mend, MendAck, Hint, HintAck}
 use Rattle.peer_messages.specs.declared.chronicle.Entry.{Entry}
 use Rattle.peer_messages.specs.declared.chronicle.Entry.TheVariants.{Acked, Refused}
 use Rattle.peer_messages.specs.declared.chronicle.Refusal.{Refusal}
@@ -21,11 +22,12 @@ use Rattle.peer_messages.specs.Moves.{quiet as quiet_move}
 use Rattle.node_steps.specs.State.{NodeState, OpenWrite, OpenRead}
 use Rattle.node_steps.specs.Effects.{Effects, nothing, effects_of, open_at, after_move, Takes}
 use Rattle.node_steps.specs.Writes.{HearsAck, heard_write, is_enough, is_settled, ack_told, started_write}
-use Rattle.node_steps.specs.Reads.{HearsReply, TellsRows, MergesReply, is_stray, replies_of, read_needs, started_read}
+use Rattle.node_steps.specs.Reads.{HearsReply, TellsRows, MergesReply, is_stray, replies_of, read_needs, started_read, AwaitsMends, mends, differing, HearsMendAck, is_awaited, mended_by}
 use Rattle.node_steps.specs.Hints.{with_sent, is_last, hint_done}
 use Rattle.node_steps.specs.Replicas.{Asker}
 use Rattle.node_steps.specs.Requests.{refusal_of, hinted_at, BeginsOrRefuses}
-use Rattle.node_steps.specs.Acts.{Act, Rises, Hears, Asks, Marks, DeadlineComes, HintExpires, Incoming, Does, HearsBody, Ends, EndsRead, mark_state, request_at, is_old, asker_of}
+use Rattle.node_steps.specs.Acts.{Act, Rises, Hears, Asks, Marks, DeadlineComes, HintExpires, Incoming, Does, HearsBody, Ends, EndsRead, mark_state, request_at, is_old, asker_of, TakesChanges}
+use Rattle.node_steps.specs.Fitting.{write_fits}
 use Rattle.answer_causes.specs.Story.{answers_to, one_if}
 use Rattle.answer_causes.proofs.Entries.{Apart, same_or_other, remove_other, remove_same, remove_apart, set_other, set_same, set_apart, insert_other, insert_same, insert_apart}
 
@@ -337,32 +339,43 @@ ack_turns c s s' o id from (Some w) turn neat found (w', (acts, next), same) is 
     ack_case s s' o id v w w' w.answered (is_enough c v) (is_settled c v) neat found refl (ap (λ (x : OpenWrite). x.answered) next) (ap (λ (x : Effects). x.entries) is ∙ ap (λ (t : Move). t.entries) acts)
     (same ∙ ap (λ (t : Move). after_move t.ended id w' s.writes) acts) reads
 
--- what comes of a reply: nothing yet, or rows
+-- what comes of a reply: no answer yet, or rows
 abbrev Replied : ReqId → Move → Type 0
-Replied id turn = (turn ≡ quiet_move) ⊎ ((turn.ended ≡ true) × ((q : ReqId) → answers_to turn.entries q ≡ one_if (is_request id q) + 0))
+Replied id turn = ((turn.ended ≡ false) × (turn.entries ≡ [])) ⊎ ((turn.ended ≡ true) × ((q : ReqId) → answers_to turn.entries q ≡ one_if (is_request id q) + 0))
+
+reply_quiet : (id : ReqId) (turn : Move) → turn ≡ quiet_move → Replied id turn
+reply_quiet id turn is = inl (ap (λ (t : Move). t.ended) is, ap (λ (t : Move). t.entries) is)
 
 reply_tells : (id : ReqId) (r : OpenRead) (turn : Move) → TellsRows id r turn → Replied id turn
 reply_tells id r turn (rows, more, shown, is) = inr (ap (λ (t : Move). t.ended) is, λ q. ap (λ (t : Move). answers_to t.entries q) is)
 
-reply_counts : (b : Bool) (id : ReqId) (r r' : OpenRead) (turn : Move) → MatchBool b ((turn ≡ quiet_move) × (r' ≡ r)) (TellsRows id r turn) → Replied id turn
-reply_counts true id r r' turn h = inl h.0
-reply_counts false id r r' turn h = reply_tells id r turn h
+mends_tell : (id : ReqId) (r r' : OpenRead) (ks : List ℕ) (sent turn : Move) → sent.ended ≡ false → sent.entries ≡ [] → AwaitsMends id r ks sent turn r' → Replied id turn
+mends_tell id r r' [] sent turn goes none h = reply_tells id r turn h
+mends_tell id r r' (k ∷ ks) sent turn goes none h = inl (ap (λ (t : Move). t.ended) h.0 ∙ goes, ap (λ (t : Move). t.entries) h.0 ∙ none)
+
+reply_counts : (b : Bool) (c : Setting) (id : ReqId) (r r' : OpenRead) (turn : Move) → MatchBool b ((turn ≡ quiet_move) × (r' ≡ r)) (AwaitsMends id r (differing c r) (mends id r (differing c r)) turn r') → Replied id turn
+reply_counts true c id r r' turn h = reply_quiet id turn h.0
+reply_counts false c id r r' turn h = mends_tell id r r' (differing c r) (mends id r (differing c r)) turn refl refl h
 
 reply_comes : (b : Bool) (c : Setting) (id : ReqId) (from : ℕ) (content : List Held) (r r' : OpenRead) (turn : Move) → MatchBool b ((turn ≡ quiet_move) × (r' ≡ r)) (MergesReply c id from content r turn r') → Replied id turn
-reply_comes true c id from content r r' turn h = inl h.0
-reply_comes false c id from content r r' turn (n, is, merge, counts) = reply_counts (nat_lt (replies_of c n) (read_needs c n)) id n r' turn counts
+reply_comes true c id from content r r' turn h = reply_quiet id turn h.0
+reply_comes false c id from content r r' turn (n, is, merge, counts) = reply_counts (nat_lt (replies_of c n) (read_needs c n)) c id n r' turn counts
+
+mend_comes : (b : Bool) (id : ReqId) (r r' : OpenRead) (ks : List ℕ) (turn : Move) → MatchBool b (AwaitsMends id r ks quiet_move turn r') ((turn ≡ quiet_move) × (r' ≡ r)) → Replied id turn
+mend_comes true id r r' ks turn h = mends_tell id r r' ks quiet_move turn refl refl h
+mend_comes false id r r' ks turn h = reply_quiet id turn h.0
 
 none_read : (o : Option OpenRead) → o ≡ None → Found o → ⊥
 none_read o is h = subst (λ (x : Option OpenRead). Found x) is h
 
-reply_turns : (c : Setting) (s s' : NodeState) (o : Effects) (id : ReqId) (from : ℕ) (content : List Held) (found : Option OpenRead) (turn : Move) → IsNeat s → open_at s.reads id ≡ found → Takes (HearsReply c id from content) id s.reads found turn s'.reads
-    → o ≡ effects_of turn → s'.writes ≡ s.writes → Turns Never s o s'
-reply_turns c s s' o id from content None turn neat found h is writes =
+reply_turns : (Step : OpenRead → Move → OpenRead → Type 0) (s s' : NodeState) (o : Effects) (id : ReqId) (found : Option OpenRead) (turn : Move) → ((r r' : OpenRead) → Step r turn r' → Replied id turn) → IsNeat s → open_at s.reads id ≡ found
+    → Takes Step id s.reads found turn s'.reads → o ≡ effects_of turn → s'.writes ≡ s.writes → Turns Never s o s'
+reply_turns Step s s' o id None turn comes neat found h is writes =
     untouched s s' o neat writes h.1 (no_answers o.entries [] (ap (λ (x : Effects). x.entries) is ∙ ap (λ (t : Move). t.entries) h.0) (λ q. refl))
-reply_turns c s s' o id from content (Some r) turn neat found (r', step, same) is writes = elim (reply_comes (is_stray c from r) c id from content r r' turn step) [
-  | inl quiet ↦
-      let z = read_set s id r r' s'.reads neat found (same ∙ ap (λ (t : Move). after_move t.ended id r' s.reads) quiet) in
-      read_still s s' o id neat z.0 writes (found_some s'.reads id r' z.1) (no_answers o.entries [] (ap (λ (x : Effects). x.entries) is ∙ ap (λ (t : Move). t.entries) quiet) (λ q. refl))
+reply_turns Step s s' o id (Some r) turn comes neat found (r', step, same) is writes = elim (comes r r' step) [
+  | inl (goes, none) ↦
+      let z = read_set s id r r' s'.reads neat found (same ∙ ap (λ (b : Bool). after_move b id r' s.reads) goes) in
+      read_still s s' o id neat z.0 writes (found_some s'.reads id r' z.1) (no_answers o.entries [] (ap (λ (x : Effects). x.entries) is ∙ none) (λ q. refl))
   | inr tells ↦
       let z = read_removed s id r s'.reads neat found (same ∙ ap (λ (b : Bool). after_move b id r' s.reads) tells.0) in
       read_told s s' o id neat z.0 writes (none_read _ z.1) (λ q. ap (λ (x : Effects). answers_to x.entries q) is ∙ tells.1 q)
@@ -377,11 +390,20 @@ unmoved : (s s' r : NodeState) (o p : Effects) → IsNeat s → s' ≡ r → r.w
 unmoved s s' r o p neat is writes reads same none =
     untouched s s' o neat (ap (λ (x : NodeState). x.writes) is ∙ writes) (ap (λ (x : NodeState). x.reads) is ∙ reads) (λ q. ap (λ (x : Effects). answers_to x.entries q) same ∙ none q)
 
+merge_turns : (a : Asker) (m : Mutation) (fits : Bool) (s : NodeState) (o : Effects) (s' : NodeState) → IsNeat s → MatchBool fits (TakesChanges a m.partition m.changes MendAck s o s') ((o ≡ nothing) × (s' ≡ s)) → Turns Never s o s'
+merge_turns a m true s o s' neat h = unmoved s s' _ o _ neat h.3 refl refl h.2 (λ q. refl)
+merge_turns a m false s o s' neat h = unmoved s s' s o nothing neat h.1 refl refl h.0 (λ q. refl)
+
 body_turns : (c : Setting) (me : ℕ) (a : Asker) (b : Body) (s : NodeState) (o : Effects) (s' : NodeState) → IsNeat s → HearsBody c me a b s o s' → Turns Never s o s'
 body_turns c me a (Write m) s o s' neat h = unmoved s s' _ o _ neat h.3 refl refl h.2 (λ q. refl)
 body_turns c me a WriteAck s o s' neat (turn, moves, is, same) = ack_turns c s s' o a.request a.from (open_at s.writes a.request) turn neat refl moves is (ap (λ (x : NodeState). x.reads) same)
 body_turns c me a (Read q) s o s' neat h = unmoved s s' s o _ neat h.3 refl refl h.2 (λ q. refl)
-body_turns c me a (ReadReply content) s o s' neat (turn, moves, is, same) = reply_turns c s s' o a.request a.from content (open_at s.reads a.request) turn neat refl moves is (ap (λ (x : NodeState). x.writes) same)
+body_turns c me a (ReadReply content) s o s' neat (turn, moves, is, same) =
+    reply_turns (HearsReply c a.request a.from content) s s' o a.request (open_at s.reads a.request) turn (λ r r' step. reply_comes (is_stray c a.from r) c a.request a.from content r r' turn step) neat refl moves is (ap (λ (x : NodeState). x.writes) same)
+body_turns c me a (Mend m) s o s' neat h = merge_turns a m (write_fits c m) s o s' neat h
+body_turns c me a MendAck s o s' neat (turn, moves, is, same) =
+    reply_turns (HearsMendAck c a.request a.from) s s' o a.request (open_at s.reads a.request) turn (λ r r' step. mend_comes (is_awaited r.mending a.from) a.request r r' (mended_by r.mending a.from) turn step) neat refl moves is
+    (ap (λ (x : NodeState). x.writes) same)
 body_turns c me a (Hint number m) s o s' neat h = unmoved s s' _ o _ neat h.3 refl refl h.2 (λ q. refl)
 body_turns c me a (HintAck number) s o s' neat h =
     let lists = acked_lists c (is_last s a.from number) s a.from number in

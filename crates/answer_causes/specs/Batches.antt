@@ -6,7 +6,7 @@ use Rattle.changes.specs.declared.Mutation.{Mutation}
 use Rattle.row_change.specs.declared.entry.Hint as hint
 use Rattle.peer_messages.specs.declared.event.Event.{Event}
 use Rattle.peer_messages.specs.declared.message.Body.{Body}
-use Rattle.peer_messages.specs.declared.message.Body.TheVariants.{Write, WriteAck, Read, ReadReply, Hint, HintAck}
+use Rattle.peer_messages.specs.declared.message.Body.TheVariants.{Write, WriteAck, Read, ReadReply, Mend, MendAck, Hint, HintAck}
 use Rattle.peer_messages.specs.declared.message.Message.{Message}
 use Rattle.peer_messages.specs.declared.outcome.Outputs.{Outputs}
 use Rattle.peer_messages.specs.declared.setting.Setting.{Setting}
@@ -30,6 +30,8 @@ batch_by_body peer from (Write m) next waiting = waiting
 batch_by_body peer from WriteAck next waiting = waiting
 batch_by_body peer from (Read q) next waiting = waiting
 batch_by_body peer from (ReadReply content) next waiting = waiting
+batch_by_body peer from (Mend m) next waiting = waiting
+batch_by_body peer from MendAck next waiting = waiting
 batch_by_body peer from (Hint number m) next waiting = waiting
 
 abbrev pub batch_by_act : Setting → ℕ → ℕ → Act → List ℕ → List ℕ → List ℕ

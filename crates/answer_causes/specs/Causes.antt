@@ -3,7 +3,7 @@ use Rattle.std.specs.Prelude.{◌≡◌, ◌≢◌, ℕ, ◌≤◌, ◌<◌, ◌
 use Rattle.cs_base.specs.declared.ids.ReqId.{ReqId}
 use Rattle.changes.specs.declared.Held.{Held}
 use Rattle.peer_messages.specs.declared.message.Body.{Body}
-use Rattle.peer_messages.specs.declared.message.Body.TheVariants.{Write, WriteAck, Read, ReadReply, Hint, HintAck}
+use Rattle.peer_messages.specs.declared.message.Body.TheVariants.{Write, WriteAck, Read, ReadReply, Mend, MendAck, Hint, HintAck}
 use Rattle.peer_messages.specs.declared.message.Message.{Message}
 use Rattle.peer_messages.specs.declared.event.What.TheVariants.{Deliver}
 use Rattle.peer_messages.specs.declared.setting.Setting.{Setting}
@@ -56,12 +56,14 @@ pub record TimesOut (k : ℕ) (e : Event) (deeds : List Deed) (o : Outputs) (ear
 abbrev pub IsReply : Body → Body → Type 0
 IsReply (Write m) b = b ≡ WriteAck
 IsReply (Read q) b = (part : List Held) × (b ≡ ReadReply part)
+IsReply (Mend m) b = b ≡ MendAck
 IsReply (Hint number m) b = b ≡ HintAck number
 IsReply WriteAck b = ⊥
 IsReply (ReadReply content) b = ⊥
+IsReply MendAck b = ⊥
 IsReply (HintAck number) b = ⊥
 
--- A write, read or hint that comes to a node and fits is answered in that event, unless it is refused: it came from too far
+-- A write, read, merge or hint that comes to a node and fits is answered in that event, unless it is refused: it came from too far
 -- ahead, so that its time was not taken, or it is too old
 pub record AnswersAtOnce (c : Setting) (k : ℕ) (e : Event) (deeds : List Deed) (o : Outputs) (earlier : List Happening) : Type 0 where
   pub at_once : (m : Message) → e.what ≡ Deliver m → message_fits c k m ≡ true → m.time < o.time → is_old c o.time m.born ≡ false → IsForReplica m.body → (b : Body) × IsReply m.body b × Contains o.sends (reply_to k o.time m b)

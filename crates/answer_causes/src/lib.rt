@@ -34,7 +34,7 @@ pub fn requests_see_marks()
 {}
 
 /// A write is told of a write's timeout and a read of a read's, with how many distinct replicas were heard of and how many its
-/// level waits for. Who waits on has heard of too few.
+/// level waits for; a read to which so many have replied is told how many have the merge of their replies. Who waits on has too few.
 pub fn timeouts_tell_numbers()
     ensures { TimeoutsTellNumbers }
 {}

@@ -43,7 +43,7 @@ fn push_in_room(kept: &mut Vec<Held>, x: Held)
     ensures len { vec_len kept.new ≡ vec_len kept.old + 1 }
     ensures capacity { vec_capacity kept.old ≤ vec_capacity kept.new }
 {
-    let _ = kept.push(x);
+    kept.push_reserved(x);
 }
 
 /// Takes in a change, unless one of the list outranks it or is it. There is room for it.
@@ -55,6 +55,7 @@ fn take_in(kept: &mut Vec<Held>, x: Held)
     ensures capacity { vec_capacity kept.old ≤ vec_capacity kept.new }
 {
     if is_reached(kept, &x) {
+        drop(x);
         return;
     }
     remove_outranked(kept, &x);

@@ -1,6 +1,6 @@
 -- A chronicle in print: a line for each answer, with the number of its request, and for what is told of a node itself. The
 -- newest entry comes first.
-use Rattle.std.specs.Prelude.{◌≡◌, ℕ, ◌+◌, Bool, true, false, if◌then◌else◌, Option, Some, None, List, [], ◌∷◌, ◌++◌, length, codes, flat_map, slice_get}
+use Rattle.std.specs.Prelude.{◌≡◌, ℕ, ◌+◌, Bool, true, false, if◌then◌else◌, Option, Some, None, List, [], ◌∷◌, ◌++◌, length, codes, slice_get}
 use Rattle.std.specs.Fmt.{decimal}
 use Rattle.cs_base.specs.declared.ids.ReqId.{ReqId}
 use Rattle.cs_base.specs.Requests.{is_request}
@@ -21,10 +21,6 @@ use Rattle.peer_messages.specs.declared.chronicle.Refusal.TheVariants as refusal
 use Rattle.peer_messages.specs.declared.chronicle.Refusal.TheVariants.{Unavailable, WriteTimeout, ReadTimeout, Overloaded, Down}
 use Rattle.peer_messages.specs.declared.chronicle.Entry.{Entry}
 use Rattle.peer_messages.specs.declared.chronicle.Entry.TheVariants.{Asked, Submitted, Acked, Refused, Used, Began, Rows, Time, Marks, Turned, Tables, Stopped}
-
--- the entries of a chronicle that comes in pieces
-abbrev pub joined : List (List Entry) → List Entry
-joined pieces = flat_map (λ (piece : List Entry). piece) pieces
 
 -- ---- numbers: each request that came has its place among them all
 

@@ -3,6 +3,7 @@
 
 mod lines;
 mod printer;
+mod requests;
 mod rows;
 
 pub use lines::push_number;

@@ -1,156 +1,140 @@
 //! Answers in print, with the numbers of their requests.
 
 ghost use Rattle.std.specs.Prelude.{◌≡◌, OnOk, IfOk, option_copied, reverse};
-ghost use Rattle.chronicle_print.specs.Printed.{IsInPrint, joined};
+ghost use Rattle.chronicle_pieces.specs.Pieces.{joined};
+ghost use Rattle.chronicle_print.specs.Printed.{IsInPrint};
+ghost use Rattle.chronicle_print.specs.Printing.{entry_at as entry_at_place, start_at as start_at_place};
 
 use crate::lines::{push_acked, push_refused, push_stopped, push_tables, push_used};
+use crate::requests::{Place, Requests};
 use crate::rows::push_rows;
 use changes::ShownRow;
+use chronicle_pieces::{Halted, Piece, Stepped};
 use cs_base::{NodeId, ReqId, Text};
-use peer_messages::{Entries, Entry, Refusal};
+use peer_messages::{Entry, Refusal};
 use schema_book::Table;
 use std::alloc::{AllocError, Global};
-use std::collections::BTreeMap;
 
-/// Where an entry stands in a chronicle that comes in pieces: the number of its piece, and its own number in there, both
-/// from 0 on.
-#[derive(Clone, Copy, Debug, PartialEq, Eq)]
-struct Place {
-    piece: usize,
-    index: usize,
-}
-
-/// What the entries so far made: how many requests came, the number of the last request of each id, the place of the entry
-/// with which the last read of each id began, and the text.
+/// What the entries so far made.
 #[derive(Drop)]
 struct Printer {
-    asked: u64,
-    numbers: BTreeMap<ReqId, u64>,
-    places: BTreeMap<ReqId, Place>,
+    requests: Requests,
     out: Vec<u8>,
 }
 
-impl Place {
-    ghost use Rattle.chronicle_print.specs.Printing.{entry_at};
+/// The entry at this place.
+fn entry_at(pieces: &[Piece], place: Place) -> Option<&Entry>
+    ensures { option_copied result ≡ entry_at_place pieces.now place }
+{
+    match pieces.get(place.piece) {
+        Some(piece) => piece.own().get(place.index),
+        None => None,
+    }
+}
 
-    /// The entry at this place.
-    fn entry(self, pieces: &[Entries]) -> Option<&Entry>
-        ensures { option_copied result ≡ entry_at pieces.now self }
-    {
-        match pieces.get(self.piece) {
-            Some(piece) => piece.as_slice().get(self.index),
-            None => None,
-        }
+/// The entry at this place, if there is one.
+fn start_at(pieces: &[Piece], place: Option<Place>) -> Option<&Entry>
+    ensures { option_copied result ≡ start_at_place pieces.now place }
+{
+    match place {
+        Some(place) => entry_at(pieces, place),
+        None => None,
     }
 }
 
 impl Printer {
-    ghost use Rattle.std.specs.Prelude.{ℕ, List, Some, ◌++◌, slice_get};
-    ghost use Rattle.peer_messages.specs.declared.chronicle.Entry.{Entry as entry_value};
+    ghost use Rattle.std.specs.Prelude.{ℕ, List, [], Some, slice_get};
+    ghost use Rattle.chronicle_pieces.specs.declared.piece.Piece.TheVariants as piece_value;
+    ghost use Rattle.chronicle_pieces.specs.Pieces.{entries_of};
     ghost use Rattle.chronicle_print.specs.Printed.{acked_line, used_line, refused_line, tables_line, stopped_line, AreRows};
-    ghost use Rattle.chronicle_print.specs.Printing.{number_in, place_in, start_at, shape_in, IsFresh, Counts, Begins, Adds, Takes, HasPrinted};
+    ghost use Rattle.chronicle_print.specs.Printing.{number_in, shape_in, IsFresh, Counts, Begins, Notes, Adds, Takes, TakesAll, Starts, EndsStep, EndsHalt, Turns, IsOwn};
 
     fn new(alloc: Global) -> Printer
-        ensures { IsFresh result }
+        ensures requests { IsFresh result.requests }
+        ensures out { result.out.items ≡ [] }
     {
         Printer {
-            asked: 0,
-            numbers: BTreeMap::new(alloc),
-            places: BTreeMap::new(alloc),
+            requests: Requests::new(alloc),
             out: Vec::new(alloc),
         }
     }
 
-    /// The number of the last request of this id; 0 where none came.
-    fn number_of(&self, request: &ReqId) -> u64
-        ensures { result ≡ number_in self.now.numbers request.now }
-    {
-        self.numbers.get(request).copied().unwrap_or(0)
-    }
-
-    /// The entry with which the last read of this id began.
-    fn start_of<'a>(&self, pieces: &'a [Entries], request: &ReqId) -> Option<&'a Entry>
-        ensures { option_copied result ≡ start_at pieces.now (place_in self.now.places request.now) }
-    {
-        match self.places.get(request) {
-            Some(place) => place.entry(pieces),
-            None => None,
-        }
-    }
-
-    /// Counts a request. For more of them than a number of 64 bits tells there is no memory.
     fn ask(&mut self, request: Option<ReqId>) -> Result<(), AllocError>
-        ensures { OnOk result (Counts request self.old self.new) }
+        ensures { OnOk result (Notes (Counts request) self.old self.new) }
     {
-        let Some(asked) = self.asked.checked_add(1) else {
-            return Err(AllocError);
-        };
-        self.asked = asked;
-        if let Some(id) = request {
-            self.numbers.insert(id, self.asked)?;
-        }
+        self.requests.ask(request)?;
         Ok(())
     }
 
     fn begin(&mut self, request: ReqId, place: Place) -> Result<(), AllocError>
-        ensures { OnOk result (Begins request place self.old self.new) }
+        ensures { OnOk result (Notes (Begins request place) self.old self.new) }
     {
-        self.places.insert(request, place)?;
+        self.requests.begin(request, place)?;
         Ok(())
     }
 
-    fn acknowledge(&mut self, alloc: Global, request: &ReqId) -> Result<(), AllocError>
-        ensures { OnOk result (Adds (acked_line (number_in self.old.numbers request.now)) self.old self.new) }
+    fn acknowledge(&mut self, request: &ReqId) -> Result<(), AllocError>
+        ensures { OnOk result (Adds (acked_line (number_in self.old.requests request.now)) self.old self.new) }
     {
-        let number = self.number_of(request);
-        push_acked(alloc, &mut self.out, number)
+        let number = self.requests.number_of(request)?;
+        push_acked(&mut self.out, number)
     }
 
-    fn name(&mut self, alloc: Global, request: &ReqId, keyspace: &Text) -> Result<(), AllocError>
-        ensures { OnOk result (Adds (used_line (number_in self.old.numbers request.now) keyspace.now) self.old self.new) }
+    fn name(&mut self, request: &ReqId, keyspace: &Text) -> Result<(), AllocError>
+        ensures { OnOk result (Adds (used_line (number_in self.old.requests request.now) keyspace.now) self.old self.new) }
     {
-        let number = self.number_of(request);
-        push_used(alloc, &mut self.out, number, keyspace.as_str())
+        let number = self.requests.number_of(request)?;
+        push_used(&mut self.out, number, keyspace.as_str())
     }
 
     fn show(
         &mut self,
         alloc: Global,
         tables: &[Table],
-        pieces: &[Entries],
+        pieces: &[Piece],
         request: &ReqId,
         rows: &[ShownRow],
     ) -> Result<(), AllocError>
-        ensures { OnOk result ((lines : List ℕ) × AreRows tables.now (shape_in pieces.now self.old.places request.now) (number_in self.old.numbers request.now) rows.now lines × Adds lines self.old self.new) }
+        ensures { OnOk result ((lines : List ℕ) × AreRows tables.now (shape_in pieces.now self.old.requests request.now) (number_in self.old.requests request.now) rows.now lines × Adds lines self.old self.new) }
     {
-        let number = self.number_of(request);
-        let start = self.start_of(pieces, request);
+        let number = self.requests.number_of(request)?;
+        let place = self.requests.place_of(request)?;
+        let start = start_at(pieces, place);
         push_rows(alloc, &mut self.out, tables, number, start, rows)
     }
 
-    fn refuse(&mut self, alloc: Global, number: u64, refusal: Refusal) -> Result<(), AllocError>
-        ensures { OnOk result (Adds (refused_line number refusal) self.old self.new) }
+    fn refuse(&mut self, request: &ReqId, refusal: Refusal) -> Result<(), AllocError>
+        ensures { OnOk result (Adds (refused_line (number_in self.old.requests request.now) refusal) self.old self.new) }
     {
-        push_refused(alloc, &mut self.out, number, refusal)
+        let number = self.requests.number_of(request)?;
+        push_refused(&mut self.out, number, refusal)
     }
 
-    fn count_tables(&mut self, alloc: Global, node: NodeId, count: u32) -> Result<(), AllocError>
+    /// Refuses the request that came last.
+    fn refuse_last(&mut self, refusal: Refusal) -> Result<(), AllocError>
+        ensures { OnOk result (Adds (refused_line self.old.requests.asked refusal) self.old self.new) }
+    {
+        let number = self.requests.asked();
+        push_refused(&mut self.out, number, refusal)
+    }
+
+    fn count_tables(&mut self, node: NodeId, count: u32) -> Result<(), AllocError>
         ensures { OnOk result (Adds (tables_line node count) self.old self.new) }
     {
-        push_tables(alloc, &mut self.out, node, count)
+        push_tables(&mut self.out, node, count)
     }
 
-    fn stop(&mut self, alloc: Global, node: NodeId) -> Result<(), AllocError>
+    fn stop(&mut self, node: NodeId) -> Result<(), AllocError>
         ensures { OnOk result (Adds (stopped_line node) self.old self.new) }
     {
-        push_stopped(alloc, &mut self.out, node)
+        push_stopped(&mut self.out, node)
     }
 
     fn take(
         &mut self,
         alloc: Global,
         tables: &[Table],
-        pieces: &[Entries],
+        pieces: &[Piece],
         place: Place,
         entry: &Entry,
     ) -> Result<(), AllocError>
@@ -158,45 +142,135 @@ impl Printer {
     {
         match entry {
             Entry::Asked(request) => self.ask(*request),
-            Entry::Acked(request, _, _) => self.acknowledge(alloc, request),
-            Entry::Refused(request, refusal) => {
-                self.refuse(alloc, self.number_of(request), *refusal)
-            }
-            Entry::Used(request, keyspace) => self.name(alloc, request, keyspace),
+            Entry::Acked(request, _, _) => self.acknowledge(request),
+            Entry::Refused(request, refusal) => self.refuse(request, *refusal),
+            Entry::Used(request, keyspace) => self.name(request, keyspace),
             Entry::Began(request, _, _, _) => self.begin(*request, place),
             Entry::Rows(request, rows, _, _) => {
                 self.show(alloc, tables, pieces, request, rows.as_slice())
             }
-            // the request that came last
-            Entry::Turned(_, refusal) => self.refuse(alloc, self.asked, *refusal),
-            Entry::Tables(node, count) => self.count_tables(alloc, *node, *count),
-            Entry::Stopped(node) => self.stop(alloc, *node),
+            Entry::Turned(_, refusal) => self.refuse_last(*refusal),
+            Entry::Tables(node, count) => self.count_tables(*node, *count),
+            Entry::Stopped(node) => self.stop(*node),
             Entry::Submitted(_, _) | Entry::Time(_, _) | Entry::Marks(_, _) => Ok(()),
         }
     }
 
-    /// Takes the entries of the piece of this number, one after another.
-    fn take_piece(
+    /// Takes the own entries of the piece of this number, one after another.
+    fn take_own(
         &mut self,
         alloc: Global,
         tables: &[Table],
-        pieces: &[Entries],
-        number: usize,
+        pieces: &[Piece],
+        piece: usize,
         entries: &[Entry],
     ) -> Result<(), AllocError>
-        requires { slice_get pieces.now number ≡ Some entries.now }
-        ensures { OnOk result ((earlier : List entry_value) → HasPrinted tables.now pieces.now earlier self.old → HasPrinted tables.now pieces.now (reverse entries.now ++ earlier) self.new) }
+        requires { IsOwn pieces.now piece entries.now }
+        ensures { OnOk result (TakesAll tables.now pieces.now entries.now self.old self.new) }
     {
         let mut index = 0;
         for entry in entries {
-            let place = Place {
-                piece: number,
-                index,
-            };
+            let place = Place { piece, index };
             self.take(alloc, tables, pieces, place, entry)?;
             index += 1;
         }
         Ok(())
+    }
+
+    /// Counts the request that a step began, if it began one.
+    fn start(&mut self, started: Option<ReqId>) -> Result<(), AllocError>
+        ensures { OnOk result (Starts started self.old self.new) }
+    {
+        match started {
+            Some(request) => self.ask(Some(request)),
+            None => Ok(()),
+        }
+    }
+
+    /// Tells how many tables there are, where a step tells it.
+    fn end_step(&mut self, node: NodeId, tables: Option<u32>) -> Result<(), AllocError>
+        ensures { OnOk result (EndsStep node tables self.old self.new) }
+    {
+        match tables {
+            Some(count) => self.count_tables(node, count),
+            None => Ok(()),
+        }
+    }
+
+    /// Tells that the node stopped, if a call of its store failed.
+    fn end_halt(&mut self, node: NodeId, has_failed: bool) -> Result<(), AllocError>
+        ensures { OnOk result (EndsHalt node has_failed self.old self.new) }
+    {
+        if has_failed { self.stop(node) } else { Ok(()) }
+    }
+
+    fn take_stepped(
+        &mut self,
+        alloc: Global,
+        tables: &[Table],
+        pieces: &[Piece],
+        number: usize,
+        step: &Stepped,
+    ) -> Result<(), AllocError>
+        requires { slice_get pieces.now number ≡ Some (piece_value.Stepped step.now) }
+        ensures { OnOk result (TakesAll tables.now pieces.now (entries_of (piece_value.Stepped step.now)) self.old self.new) }
+    {
+        self.start(step.started)?;
+        self.take_own(alloc, tables, pieces, number, step.entries.as_slice())?;
+        self.end_step(step.node, step.tables)?;
+        Ok(())
+    }
+
+    fn take_halted(
+        &mut self,
+        alloc: Global,
+        tables: &[Table],
+        pieces: &[Piece],
+        number: usize,
+        halt: &Halted,
+    ) -> Result<(), AllocError>
+        requires { slice_get pieces.now number ≡ Some (piece_value.Halted halt.now) }
+        ensures { OnOk result (TakesAll tables.now pieces.now (entries_of (piece_value.Halted halt.now)) self.old self.new) }
+    {
+        self.start(halt.started)?;
+        self.take_own(alloc, tables, pieces, number, halt.entries.as_slice())?;
+        self.end_halt(halt.node, halt.has_failed)?;
+        Ok(())
+    }
+
+    /// Takes a request that its node could not begin.
+    fn turn(&mut self, refusal: Refusal) -> Result<(), AllocError>
+        ensures { OnOk result (Turns refusal self.old self.new) }
+    {
+        self.ask(None)?;
+        self.refuse_last(refusal)?;
+        Ok(())
+    }
+
+    /// Takes the piece of this number.
+    fn take_piece(
+        &mut self,
+        alloc: Global,
+        tables: &[Table],
+        pieces: &[Piece],
+        number: usize,
+        piece: &Piece,
+    ) -> Result<(), AllocError>
+        requires { slice_get pieces.now number ≡ Some piece.now }
+        ensures { OnOk result (TakesAll tables.now pieces.now (entries_of piece.now) self.old self.new) }
+    {
+        match piece {
+            Piece::Stepped(step) => self.take_stepped(alloc, tables, pieces, number, step),
+            Piece::Halted(halt) => self.take_halted(alloc, tables, pieces, number, halt),
+            Piece::Turned(_, refusal) => {
+                self.turn(*refusal)?;
+                Ok(())
+            }
+            Piece::Failed(node) => {
+                self.stop(*node)?;
+                Ok(())
+            }
+        }
     }
 }
 
@@ -217,14 +291,14 @@ impl Printer {
 pub fn print_chronicle(
     alloc: Global,
     tables: &[Table],
-    pieces: &[Entries],
+    pieces: &[Piece],
 ) -> Result<Vec<u8>, AllocError>
     ensures { IfOk result (λ text. IsInPrint tables.now (reverse (joined pieces.now)) text.items) }
 {
     let mut printer = Printer::new(alloc);
     let mut number = 0;
     for piece in pieces {
-        printer.take_piece(alloc, tables, pieces, number, piece.as_slice())?;
+        printer.take_piece(alloc, tables, pieces, number, piece)?;
         number += 1;
     }
     Ok(printer.out)

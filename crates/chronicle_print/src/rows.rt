@@ -24,27 +24,22 @@ fn columns_of(tables: &[Table], number: u16) -> &[ColumnDef]
     }
 }
 
-fn push_rows_line(
-    alloc: Global,
-    out: &mut Vec<u8>,
-    number: u64,
-    count: u64,
-) -> Result<(), AllocError>
+fn push_rows_line(out: &mut Vec<u8>, number: u64, count: u64) -> Result<(), AllocError>
     ensures { OnOk result (out.new.items ≡ out.old.items ++ rows_line number count) }
 {
-    push_number(alloc, out, number)?;
+    push_number(out, number)?;
     out.extend_from_slice(b" rows ")?;
-    push_number(alloc, out, count)?;
+    push_number(out, count)?;
     out.push(b'\n')?;
     Ok(())
 }
 
-fn push_count(alloc: Global, out: &mut Vec<u8>, number: u64, count: u64) -> Result<(), AllocError>
+fn push_count(out: &mut Vec<u8>, number: u64, count: u64) -> Result<(), AllocError>
     ensures { OnOk result (out.new.items ≡ out.old.items ++ count_lines number count) }
 {
-    push_rows_line(alloc, out, number, 1)?;
+    push_rows_line(out, number, 1)?;
     out.push(b' ')?;
-    push_number(alloc, out, count)?;
+    push_number(out, count)?;
     out.push(b'\n')?;
     Ok(())
 }
@@ -60,7 +55,7 @@ fn push_listed(
 ) -> Result<(), AllocError>
     ensures { OnOk result ((behind : List ℕ) × AreRowLines (IsRowLine columns.now key.now listed.now) rows.now behind × (out.new.items ≡ out.old.items ++ (rows_line number (length rows.now) ++ behind))) }
 {
-    push_rows_line(alloc, out, number, rows.len() as u64)?;
+    push_rows_line(out, number, rows.len() as u64)?;
     push_lines(alloc, out, columns, key, listed, rows)?;
     Ok(())
 }
@@ -86,7 +81,7 @@ fn push_shaped(
             listed.as_slice(),
             rows,
         ),
-        Columns::Count => push_count(alloc, out, number, rows.len() as u64),
+        Columns::Count => push_count(out, number, rows.len() as u64),
     }
 }
 
@@ -105,6 +100,6 @@ pub(crate) fn push_rows(
         Some(Entry::Began(_, query, _, columns)) => {
             push_shaped(alloc, out, tables, number, &query.partition, columns, rows)
         }
-        _ => push_rows_line(alloc, out, number, rows.len() as u64),
+        _ => push_rows_line(out, number, rows.len() as u64),
     }
 }

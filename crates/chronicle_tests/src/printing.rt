@@ -2,10 +2,11 @@
 
 use cell_merge::Content;
 use changes::{Bound, Mutation, Partition, Query, ShownCell, ShownRow, ShownRows};
+use chronicle_pieces::{Alive, Halted, Piece, Stepped};
 use chronicle_print::print_chronicle;
 use cs_base::{Bytes, Items, Level, Micros, NodeId, ReqId, Text};
 use peer_messages::{Entry, Grounds, Invalid, Refusal};
-use schema_book::{Schema, Table};
+use schema_book::Schema;
 use statement_plan::{Columns, Fault, Feature};
 use std::alloc::Global;
 use std::test::Fail;
@@ -86,47 +87,60 @@ fn row(alloc: Global, order: &[u8], column: u8, value: &[u8]) -> Result<ShownRow
     })
 }
 
+/// A step of node 0 that began this request, and has these entries of its own.
+fn step(started: Option<ReqId>, entries: Vec<Entry>) -> Piece {
+    Piece::Stepped(Stepped {
+        node: NodeId::FIRST,
+        started,
+        alive: Alive::new(),
+        time: Micros::new(7),
+        entries: Items::from_vec(entries),
+        tables: None,
+    })
+}
+
 /// Two writes, the second of which its node could not begin.
-fn add_writes(alloc: Global, entries: &mut Vec<Entry>) -> Result<(), Fail> {
-    entries.push(Entry::Asked(Some(id(7))))?;
-    entries.push(submitted(alloc, id(7))?)?;
-    entries.push(acked(alloc, id(7)))?;
-    entries.push(Entry::Time(NodeId::FIRST, Micros::new(7)))?;
-    entries.push(Entry::Asked(None))?;
+fn add_writes(alloc: Global, pieces: &mut Vec<Piece>) -> Result<(), Fail> {
+    let own = vec![in alloc; submitted(alloc, id(7))?, acked(alloc, id(7))]?;
+    pieces.push(step(Some(id(7)), own))?;
     let refusal = Refusal::Unavailable {
         required: 2,
         alive: 1,
     };
-    entries.push(Entry::Turned(NodeId::FIRST, refusal))?;
+    pieces.push(Piece::Turned(NodeId::FIRST, refusal))?;
     Ok(())
 }
 
 /// A read that is answered with two rows.
-fn add_read(alloc: Global, entries: &mut Vec<Entry>) -> Result<(), Fail> {
+fn add_read(alloc: Global, pieces: &mut Vec<Piece>) -> Result<(), Fail> {
     let mut shown = Items::new(alloc);
     shown.push(row(alloc, b"it's\x00\x00", 2, b"it's")?)?;
     shown.push(row(alloc, b"b\x00\xff\x00\x00", 3, b"x")?)?;
-    entries.push(Entry::Asked(Some(id(9))))?;
-    entries.push(began(alloc, id(9), None)?)?;
-    entries.push(began(alloc, id(9), Some(&[1, 2, 0]))?)?;
-    entries.push(rows(alloc, id(9), shown))?;
+    let own = vec![in alloc; began(alloc, id(9), None)?]?;
+    pieces.push(step(Some(id(9)), own))?;
+    pieces.push(step(None, Vec::new(alloc)))?;
+    let listed = began(alloc, id(9), Some(&[1, 2, 0]))?;
+    let own = vec![in alloc; listed, rows(alloc, id(9), shown)]?;
+    pieces.push(step(None, own))?;
     Ok(())
 }
 
-/// A count of one row, and a keyspace.
-fn add_count(alloc: Global, entries: &mut Vec<Entry>) -> Result<(), Fail> {
+/// A count of one row and a keyspace, both in the step of the second request.
+fn add_count(alloc: Global, pieces: &mut Vec<Piece>) -> Result<(), Fail> {
     let mut shown = Items::new(alloc);
     shown.push(row(alloc, b"b\x00\x00", 2, b"x")?)?;
-    entries.push(Entry::Asked(Some(id(10))))?;
-    entries.push(began(alloc, id(10), None)?)?;
-    entries.push(Entry::Asked(Some(id(11))))?;
-    entries.push(Entry::Used(id(11), Text::from_str(alloc, "ks")?))?;
-    entries.push(rows(alloc, id(10), shown))?;
+    pieces.push(step(Some(id(10)), Vec::new(alloc)))?;
+    let own = vec![in alloc;
+        began(alloc, id(10), None)?,
+        Entry::Used(id(11), Text::from_str(alloc, "ks")?),
+        rows(alloc, id(10), shown),
+    ]?;
+    pieces.push(step(Some(id(11)), own))?;
     Ok(())
 }
 
-fn add_timeouts(entries: &mut Vec<Entry>) -> Result<(), Fail> {
-    entries.push(Entry::Refused(
+fn add_timeouts(own: &mut Vec<Entry>) -> Result<(), Fail> {
+    own.push(Entry::Refused(
         id(7),
         Refusal::WriteTimeout {
             received: 1,
@@ -134,7 +148,7 @@ fn add_timeouts(entries: &mut Vec<Entry>) -> Result<(), Fail> {
         },
     ))?;
     for data in [true, false] {
-        entries.push(Entry::Refused(
+        own.push(Entry::Refused(
             id(9),
             Refusal::ReadTimeout {
                 received: u8::from(data),
@@ -147,29 +161,13 @@ fn add_timeouts(entries: &mut Vec<Entry>) -> Result<(), Fail> {
 }
 
 /// An id that comes again, answers out of order, and one of a request that never came.
-fn add_late(alloc: Global, entries: &mut Vec<Entry>) -> Result<(), Fail> {
-    entries.push(Entry::Asked(Some(id(7))))?;
-    entries.push(acked(alloc, id(7)))?;
-    entries.push(Entry::Refused(id(9), Refusal::Overloaded))?;
-    add_timeouts(entries)?;
-    entries.push(acked(alloc, id(8)))?;
+fn add_late(alloc: Global, pieces: &mut Vec<Piece>) -> Result<(), Fail> {
+    let overloaded = Entry::Refused(id(9), Refusal::Overloaded);
+    let mut own = vec![in alloc; acked(alloc, id(7)), overloaded]?;
+    add_timeouts(&mut own)?;
+    own.push(acked(alloc, id(8)))?;
+    pieces.push(step(Some(id(7)), own))?;
     Ok(())
-}
-
-/// These entries in print, in pieces of two behind an empty one.
-fn printed(alloc: Global, tables: &[Table], entries: Vec<Entry>) -> Result<Vec<u8>, Fail> {
-    let mut pieces = Vec::new(alloc);
-    let mut piece = Items::new(alloc);
-    pieces.push(Items::new(alloc))?;
-    for entry in entries {
-        piece.push(entry)?;
-        if piece.as_slice().len() == 2 {
-            pieces.push(piece)?;
-            piece = Items::new(alloc);
-        }
-    }
-    pieces.push(piece)?;
-    Ok(print_chronicle(alloc, tables, &pieces)?)
 }
 
 const PRINTED: &[u8] = b"1 ok
@@ -191,13 +189,13 @@ const PRINTED: &[u8] = b"1 ok
 #[test]
 fn prints_a_chronicle(rt: HostRuntime) -> Result<(), Fail> {
     let alloc = rt.alloc();
-    let mut entries = Vec::new(alloc);
-    add_writes(alloc, &mut entries)?;
-    add_read(alloc, &mut entries)?;
-    add_count(alloc, &mut entries)?;
-    add_late(alloc, &mut entries)?;
+    let mut pieces = Vec::new(alloc);
+    add_writes(alloc, &mut pieces)?;
+    add_read(alloc, &mut pieces)?;
+    add_count(alloc, &mut pieces)?;
+    add_late(alloc, &mut pieces)?;
     let schema = schema(alloc)?;
-    let text = printed(alloc, schema.tables(), entries)?;
+    let text = print_chronicle(alloc, schema.tables(), &pieces)?;
     assert_eq!(rt; text.as_slice(), PRINTED);
     Ok(())
 }
@@ -212,7 +210,7 @@ const REFUSALS: &[u8] = b"1 invalid SerialWrite
 #[test]
 fn names_refusals(rt: HostRuntime) -> Result<(), Fail> {
     let alloc = rt.alloc();
-    let mut entries = Vec::new(alloc);
+    let mut pieces = Vec::new(alloc);
     let unsupported = Fault::NotSupported(Feature::Batch);
     for why in [
         Invalid::SerialWrite,
@@ -221,29 +219,69 @@ fn names_refusals(rt: HostRuntime) -> Result<(), Fail> {
         Invalid::PartitionTooLarge,
         Invalid::Statement(unsupported),
     ] {
-        entries.push(Entry::Asked(None))?;
-        entries.push(Entry::Turned(NodeId::FIRST, Refusal::Invalid(why)))?;
+        pieces.push(Piece::Turned(NodeId::FIRST, Refusal::Invalid(why)))?;
     }
-    let text = printed(alloc, &[], entries)?;
+    let text = print_chronicle(alloc, &[], &pieces)?;
     assert_eq!(rt; text.as_slice(), REFUSALS);
     Ok(())
 }
 
-/// A node that stops at a request, is turned to while it does not run, and has tables once it runs again.
+/// A node that stops at a request, is turned to while it does not run, and has tables once it runs again; one that stops
+/// and was told to, which is not printed; and one that can't be loaded.
 #[test]
 fn tells_of_nodes(rt: HostRuntime) -> Result<(), Fail> {
     let alloc = rt.alloc();
     let node = NodeId::new(6).ok_or("no such node")?;
-    let mut entries = Vec::new(alloc);
-    entries.push(Entry::Asked(Some(id(7))))?;
-    entries.push(submitted(alloc, id(7))?)?;
-    entries.push(Entry::Stopped(node))?;
-    entries.push(Entry::Asked(None))?;
-    entries.push(Entry::Turned(node, Refusal::Down))?;
-    entries.push(Entry::Marks(node, Items::new(alloc)))?;
-    entries.push(Entry::Tables(node, u32::MAX))?;
-    let text = printed(alloc, &[], entries)?;
-    let want = b"stopped 6\n2 down\ntables 6 4294967295\n";
+    let own = vec![in alloc; submitted(alloc, id(7))?]?;
+    let pieces = vec![in alloc;
+        Piece::Halted(Halted {
+            node,
+            started: Some(id(7)),
+            entries: Items::from_vec(own),
+            has_failed: true,
+        }),
+        Piece::Turned(node, Refusal::Down),
+        Piece::Stepped(Stepped {
+            node,
+            started: None,
+            alive: Alive::new(),
+            time: Micros::new(7),
+            entries: Items::new(alloc),
+            tables: Some(u32::MAX),
+        }),
+        Piece::Halted(Halted {
+            node: NodeId::FIRST,
+            started: Some(id(8)),
+            entries: Items::new(alloc),
+            has_failed: false,
+        }),
+        Piece::Failed(NodeId::FIRST),
+        Piece::Turned(NodeId::FIRST, Refusal::Down),
+    ]?;
+    let text = print_chronicle(alloc, &[], &pieces)?;
+    let want = b"stopped 6\n2 down\ntables 6 4294967295\nstopped 0\n4 down\n";
+    assert_eq!(rt; text.as_slice(), want.as_slice());
+    Ok(())
+}
+
+/// What a step usually enters before and behind its own entries is printed among them as well.
+#[test]
+fn prints_own_entries_of_each_kind(rt: HostRuntime) -> Result<(), Fail> {
+    let alloc = rt.alloc();
+    let node = NodeId::FIRST;
+    let own = vec![in alloc;
+        Entry::Asked(Some(id(7))),
+        Entry::Marks(node, Items::new(alloc)),
+        Entry::Time(node, Micros::new(7)),
+        Entry::Asked(None),
+        Entry::Turned(node, Refusal::Overloaded),
+        Entry::Tables(node, 3),
+        Entry::Stopped(node),
+        acked(alloc, id(7)),
+    ]?;
+    let pieces = vec![in alloc; step(None, own)]?;
+    let text = print_chronicle(alloc, &[], &pieces)?;
+    let want = b"2 overloaded\ntables 0 3\nstopped 0\n1 ok\n";
     assert_eq!(rt; text.as_slice(), want.as_slice());
     Ok(())
 }

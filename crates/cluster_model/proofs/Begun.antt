@@ -18,6 +18,8 @@ use Rattle.answer_causes.specs.AnswersRight.{AnswersRight}
 use Rattle.answer_causes.proofs.Right.{all_right}
 use Rattle.read_consistency.specs.ReadRight.{ReadRight}
 use Rattle.read_consistency.proofs.Traces.{run_right}
+use Rattle.reads_forward.specs.ReadsForward.{ReadsForward}
+use Rattle.reads_forward.proofs.Traces.{run_forward}
 use Rattle.cs_base.proofs.Slots.{some_one}
 use Rattle.cluster_model.specs.State.{Site, ClusterState, IsReached, AreFresh, Post, no_post, begin_of}
 use Rattle.cluster_model.specs.Sites.{Keeper}
@@ -84,6 +86,10 @@ fresh_run c first h = reload_all c [] (length c.ring) first h.count h.each begun
 pub reached_right : (v : ClusterState) → IsReached v → AreFresh v.setting v.first → ReadRight v.setting v.chronicle
 reached_right v (w, run, shown) fresh =
     subst (λ (es : List Entry). ReadRight v.setting es) (sym shown.chronicle) (run_right v.setting w (run_on v.setting (start v.setting) (begin_of v.first) w (fresh_run v.setting v.first fresh) run))
+
+pub reached_forward : (v : ClusterState) → IsReached v → AreFresh v.setting v.first → ReadsForward v.setting v.chronicle
+reached_forward v (w, run, shown) fresh =
+    subst (λ (es : List Entry). ReadsForward v.setting es) (sym shown.chronicle) (run_forward v.setting w (run_on v.setting (start v.setting) (begin_of v.first) w (fresh_run v.setting v.first fresh) run))
 
 pub reached_causes : (v : ClusterState) → IsReached v → AreFresh v.setting v.first → AnswersRight v.setting v.chronicle
 reached_causes v (w, run, shown) fresh =

@@ -1,5 +1,5 @@
 -- What comes of an event at a node leads a run on.
-use Rattle.std.proofs.Common.{◌≡◌, ℕ, zero, suc, ◌+◌, arith, Bool, true, false, inl, inr, ◌&&◌, not, Option, Some, None, List, [], ◌∷◌, ◌++◌, refl, sym, ap, subst, ◌∙◌, length, reverse}
+use Rattle.std.proofs.Common.{◌≡◌, ℕ, zero, suc, Bool, true, false, inl, inr, ◌&&◌, not, Option, Some, None, List, [], ◌∷◌, ◌++◌, refl, sym, ap, subst, ◌∙◌, length, reverse}
 use Rattle.std.specs.Prelude.{map, slice_get, slice_set, Result, Ok, Err, IfOk, OnErr, OnOk}
 use Rattle.std.specs.List.{range_with_len}
 use Rattle.std.proofs.lemmas.List.{map-set}
@@ -41,18 +41,6 @@ use Rattle.cluster_model.specs.declared.seat.Seat.{Seat}
 use Rattle.cluster_model.specs.declared.turn.Turn.{Turn}
 use Rattle.cluster_model.specs.declared.turn.Turn.TheVariants.{Stepped, Stopped, Refused, NoNode}
 use Rattle.cluster_model.proofs.Fits.{fit_at, fit_put, beside_running, beside_resting}
-
--- ---- numbers
-
-range_end : (a n : ℕ) → range_with_len a (suc n) ≡ range_with_len a n ++ (a + n) ∷ []
-range_end a zero = ap (λ (x : ℕ). x ∷ []) (let e : a ≡ a + 0 = omega arith in e)
-range_end a (suc n) =
-    ap (λ (xs : List ℕ). a ∷ xs) (range_end (a + 1) n ∙ ap (λ (x : ℕ). range_with_len (a + 1) n ++ x ∷ []) (let e : a + 1 + n ≡ a + suc n = omega arith in e))
-
-pub range_more : (xs : List ℕ) (n v : ℕ) → xs ≡ range_with_len 0 n → v ≡ n → xs ++ v ∷ [] ≡ range_with_len 0 (n + 1)
-range_more xs n v is same =
-    ap (λ (ys : List ℕ). ys ++ v ∷ []) is ∙ ap (λ (x : ℕ). range_with_len 0 n ++ x ∷ []) (let e : v ≡ 0 + n = omega (arith, same) in e)
-    ∙ sym (range_end 0 n) ∙ ap (λ (x : ℕ). range_with_len 0 x) (let e : suc n ≡ n + 1 = omega arith in e)
 
 -- ---- sites
 

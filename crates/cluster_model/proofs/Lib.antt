@@ -1,6 +1,7 @@
 pub mod Places
 pub mod Open
 pub mod Fits
+pub mod Pieced
 pub mod Going
 pub mod Changing
 pub mod Stores

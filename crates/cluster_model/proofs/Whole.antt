@@ -8,13 +8,15 @@ use Rattle.peer_messages.specs.declared.chronicle.Entry.{Entry}
 use Rattle.peer_messages.specs.declared.chronicle.Entry.TheVariants.{Stopped as HasStopped}
 use Rattle.peer_messages.specs.declared.event.What.{What}
 use Rattle.peer_messages.specs.declared.setting.Setting.{Setting}
+use Rattle.chronicle_pieces.specs.Pieces.{joined}
+use Rattle.chronicle_pieces.specs.declared.piece.Piece.{Piece}
 use Rattle.node_steps.specs.State.{NodeState}
 use Rattle.cluster_runs.specs.Run.{WasSent}
 use Rattle.cluster_model.specs.State.{Site, Post, ClusterState, passed_at}
 use Rattle.cluster_model.specs.Takes.{Comes, Restarts, changed, told_of}
 use Rattle.cluster_model.specs.Mails.{HoldsMail, post_of}
 use Rattle.cluster_model.specs.Turns.{asks, turn_entries}
-use Rattle.cluster_model.specs.Annals.{IsSame, Enters, entries_of, joined}
+use Rattle.cluster_model.specs.Annals.{IsSame, Enters, entries_of}
 use Rattle.cluster_model.specs.Sites.{Keeper, AtSeat, IsSeat, StaysAt, TurnsAt, TellsBy, WakesBy, SleepsBy}
 use Rattle.cluster_model.specs.declared.told.Told.{Told}
 use Rattle.cluster_model.specs.Holding.{IsRun, Holds, entries_in, first_of, seen, state_of}
@@ -137,7 +139,7 @@ pub passed_holds : {R : Type 0} (m : Keeper R) (p : Parts R) (annals : Annals) (
 passed_holds m p annals place h posts mail pieces = record {
   few = h.few;
   mail = mail;
-  run = told_run m p.setting (first_of m p.begun.items) p.seats.items (passed_at (post_of p.annals.mail) place) _ (entries_in p) _ posts (ap (λ (x : Vec (List Entry) Global). reverse (joined x.items)) pieces)
+  run = told_run m p.setting (first_of m p.begun.items) p.seats.items (passed_at (post_of p.annals.mail) place) _ (entries_in p) _ posts (ap (λ (x : Vec Piece Global). reverse (joined x.items)) pieces)
       (record { world = h.run.world; run = h.run.run; nodes = h.run.nodes; sent = h.run.sent; chronicle = h.run.chronicle });
 }
 

@@ -33,6 +33,20 @@ pub record ClusterState : Type 0 where
   pub post : Post
   pub chronicle : List Entry
 
+-- ---- nodes
+
+abbrev pub is_up : Showing → Bool
+is_up (Up s) = true
+is_up Off = false
+
+abbrev pub runs_of : Option Site → Bool
+runs_of None = false
+runs_of (Some site) = is_up site.node
+
+-- whether node k is there, and runs
+abbrev pub runs_at : ClusterState → ℕ → Bool
+runs_at v k = runs_of (slice_get v.sites k)
+
 -- ---- runs
 
 abbrev pub no_post : Post

@@ -4,11 +4,12 @@ ghost use Rattle.std.specs.Prelude.{◌≡◌, ◌≤◌, ◌<◌, ℕ, [], IfOk
 ghost use Rattle.cluster_model.specs.declared.error.ClusterError.TheVariants as cluster_error;
 ghost use Rattle.replica.specs.declared.error.LoadError.TheVariants as load_error;
 ghost use Rattle.cluster_model.specs.Sites.{keeper};
-ghost use Rattle.cluster_model.specs.Annals.{joined};
+ghost use Rattle.chronicle_pieces.specs.Pieces.{joined};
 ghost use Rattle.cluster_model.specs.Holding.{Holds, state_of};
 ghost use Rattle.cluster_model.specs.Beginning.{IsSeated, AreSeated, Begins, IsDamagedAt};
 ghost use Rattle.answer_causes.specs.AnswersRight.{AnswersRight};
 ghost use Rattle.read_consistency.specs.ReadRight.{ReadRight};
+ghost use Rattle.reads_forward.specs.ReadsForward.{ReadsForward};
 
 use crate::annals::Annals;
 use crate::copies::copy_setting;
@@ -17,11 +18,12 @@ use crate::event::ClusterEvent;
 use crate::mail::Mail;
 use crate::parts::Parts;
 use crate::seat::{Part, Seat};
+use chronicle_pieces::Piece;
 use cs_base::{Micros, NodeId};
 use cs_store::{MemStore, Outcome};
 use http_server::Log;
 use node_core::Node;
-use peer_messages::{Entries, Setting};
+use peer_messages::Setting;
 use replica::{LoadError, MemReplica};
 use std::alloc::{AllocError, Global};
 use std::marker::Model;
@@ -117,13 +119,12 @@ fn parts_of<R: MemReplica>(
         annals: Annals {
             mail: Mail::new(alloc)?,
             pieces: Vec::new(alloc),
-            spare: Vec::new(alloc),
         },
     })
 }
 
 impl<R: MemReplica> Cluster<R> {
-    ghost use Rattle.cluster_model.specs.State.{AreFresh, IsReached, KeepsOn};
+    ghost use Rattle.cluster_model.specs.State.{AreFresh, IsReached, KeepsOn, runs_at};
     ghost use Rattle.cluster_model.specs.Takes.{Takes, Stands};
     ghost use Rattle.cluster_model.specs.Beginning.{AreFormatted, Begins, IsDamagedAt};
 
@@ -147,8 +148,8 @@ impl<R: MemReplica> Cluster<R> {
     }
 
     /// Takes one event. Whatever came before it, the cluster has come to this by a run from what its nodes were loaded with; and
-    /// each answered read of its chronicle is right, if its stores were formatted, and each request is told what it is told for its
-    /// cause.
+    /// each answered read of its chronicle is right and goes forward, if its stores were formatted, and each request is told what it is
+    /// told for its cause.
     ///
     /// After an error nothing of the event has happened, but for the deliveries of a settling that were made before.
     pub fn step(&mut self, alloc: Global, event: ClusterEvent) -> Result<(), AllocError>
@@ -157,18 +158,27 @@ impl<R: MemReplica> Cluster<R> {
         ensures keeps { KeepsOn self.old self.new }
         ensures reached { IsReached self.new }
         ensures right { AreFresh self.new.setting self.new.first → ReadRight self.new.setting self.new.chronicle }
+        ensures forward { AreFresh self.new.setting self.new.first → ReadsForward self.new.setting self.new.chronicle }
         ensures causes { AreFresh self.new.setting self.new.first → AnswersRight self.new.setting self.new.chronicle }
     {
         self.parts.take_event(alloc, event)
     }
 
     /// The chronicle so far, the oldest entry first, in pieces.
-    pub fn chronicle(&self) -> &[Entries]
+    pub fn chronicle(&self) -> &[Piece]
         ensures entries { reverse (joined result.now) ≡ self.now.chronicle }
         ensures reached { IsReached self.now }
         ensures right { AreFresh self.now.setting self.now.first → ReadRight self.now.setting self.now.chronicle }
+        ensures forward { AreFresh self.now.setting self.now.first → ReadsForward self.now.setting self.now.chronicle }
         ensures causes { AreFresh self.now.setting self.now.first → AnswersRight self.now.setting self.now.chronicle }
     {
         &self.parts.annals.pieces
+    }
+
+    /// Whether the node runs. One that isn't of the ring does not.
+    pub fn runs(&self, node: NodeId) -> bool
+        ensures { result ≡ runs_at self.now node }
+    {
+        self.parts.runs(node)
     }
 }

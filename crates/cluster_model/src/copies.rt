@@ -14,6 +14,8 @@ fn copy_body(alloc: Global, body: &Body) -> Result<Body, AllocError>
         Body::WriteAck => Body::WriteAck,
         Body::Read(query) => Body::Read(query.copy(alloc)?),
         Body::ReadReply(content) => Body::ReadReply(content.copy(alloc)?),
+        Body::Mend(mutation) => Body::Mend(mutation.copy(alloc)?),
+        Body::MendAck => Body::MendAck,
         Body::Hint(number, mutation) => Body::Hint(*number, mutation.copy(alloc)?),
         Body::HintAck(number) => Body::HintAck(*number),
     })

@@ -4,7 +4,7 @@ ghost use Rattle.std.specs.Prelude.{◌≡◌, ◌+◌, ◌++◌, ◌≤◌, [],
 ghost use Rattle.std.specs.List.{range_with_len};
 ghost use Rattle.cluster_runs.specs.Run.{WasSent};
 ghost use Rattle.peer_messages.specs.declared.event.What.TheVariants as what_is;
-ghost use Rattle.cluster_model.specs.State.{place_of, oldest_from};
+ghost use Rattle.cluster_model.specs.State.{place_of, oldest_from, runs_at};
 ghost use Rattle.cluster_model.specs.Takes.{Comes, Delivers, Settles, SettlesInPart, Takes, Stands, lost, changed, stopped, set_clock, told_of, Restarts};
 ghost use Rattle.cluster_model.specs.Mails.{post_of};
 ghost use Rattle.cluster_model.specs.Turns.{asks};
@@ -35,18 +35,6 @@ pub(crate) struct Parts<R: MemReplica> {
     pub annals: Annals,
 }
 
-/// The numbers of so many nodes.
-fn all_nodes(alloc: Global, count: u8) -> Result<Vec<NodeId>, AllocError>
-    requires { count ≤ 7 }
-    ensures { IfOk result (λ nodes. nodes.items ≡ range_with_len 0 count) }
-{
-    let mut nodes = Vec::new(alloc);
-    for number in 0..count {
-        nodes.push(NodeId::new(number).unwrap())?;
-    }
-    Ok(nodes)
-}
-
 /// Whether a client asks.
 fn is_ask(what: &What) -> bool
     ensures { result ≡ asks what.now }
@@ -57,19 +45,21 @@ fn is_ask(what: &What) -> bool
     }
 }
 
-/// A node of these takes an event. At an error nothing has happened.
+/// A node of these takes an event, in a cluster of so many nodes. At an error nothing has happened.
 fn turn_at<R: MemReplica>(
     seats: &mut Vec<Seat<R>>,
     alloc: Global,
-    nodes: Vec<NodeId>,
+    nodes: u8,
     node: NodeId,
     what: What,
 ) -> Result<Turn, AllocError>
-    requires { (k : ℕ) (seat : _) → slice_get seats.old.items k ≡ Some seat → MayTake (keeper R.stands_for R.durable R.disk R.is_whole) seat.part }
-    ensures ok { IfOk result (λ turn. TurnsAt (keeper R.stands_for R.durable R.disk R.is_whole) nodes.items seats.old.items node what turn seats.new.items) }
+    requires few { nodes ≤ 7 }
+    requires seats { (k : ℕ) (seat : _) → slice_get seats.old.items k ≡ Some seat → MayTake (keeper R.stands_for R.durable R.disk R.is_whole) seat.part }
+    ensures ok { IfOk result (λ turn. TurnsAt (keeper R.stands_for R.durable R.disk R.is_whole) (range_with_len 0 nodes) seats.old.items node what turn seats.new.items) }
     ensures err { OnErr result (AtSeat (StaysAt (keeper R.stands_for R.durable R.disk R.is_whole)) (Unit {0}) seats.old.items node (slice_get seats.old.items node) seats.new.items) }
 {
     let Some(seat) = seats.get_mut(usize::from(node.number())) else {
+        drop(what);
         return Ok(Turn::NoNode);
     };
     seat.take(alloc, nodes, what)
@@ -126,6 +116,16 @@ fn tell_at<R: MemReplica>(
 }
 
 impl<R: MemReplica> Parts<R> {
+    /// Whether the node runs.
+    pub fn runs(&self, node: NodeId) -> bool
+        ensures { result ≡ runs_at (state_of (keeper R.stands_for R.durable R.disk R.is_whole) self.now) node }
+    {
+        match self.seats.get(usize::from(node.number())) {
+            Some(seat) => seat.runs(),
+            None => false,
+        }
+    }
+
     /// The event comes to the node. An error leaves all as it was.
     #[inline(always)]
     pub fn take(&mut self, alloc: Global, node: NodeId, what: What) -> Result<(), AllocError>
@@ -136,12 +136,14 @@ impl<R: MemReplica> Parts<R> {
         ensures err { OnErr result (state_of (keeper R.stands_for R.durable R.disk R.is_whole) self.new ≡ state_of (keeper R.stands_for R.durable R.disk R.is_whole) self.old) }
         ensures passed { vec_len self.old.annals.mail.passed ≤ vec_len self.new.annals.mail.passed }
     {
-        let room = self.annals.make_room(alloc)?;
-        let count = self.setting.ring.nodes();
-        let nodes = all_nodes(alloc, count)?;
+        if let Err(error) = self.annals.make_room() {
+            drop(what);
+            return Err(error);
+        }
+        let nodes = self.setting.ring.nodes();
         let is_ask = is_ask(&what);
         let turn = turn_at(&mut self.seats, alloc, nodes, node, what)?;
-        self.annals.enter(node, is_ask, turn, room);
+        self.annals.enter(node, is_ask, turn);
         Ok(())
     }
 
@@ -282,10 +284,10 @@ impl<R: MemReplica> Parts<R> {
         ensures holds { Holds (keeper R.stands_for R.durable R.disk R.is_whole) self.new }
         ensures err { OnErr result (state_of (keeper R.stands_for R.durable R.disk R.is_whole) self.new ≡ state_of (keeper R.stands_for R.durable R.disk R.is_whole) self.old) }
     {
-        let room = self.annals.make_room(alloc)?;
+        self.annals.make_room()?;
         let setting = copy_setting(alloc, &self.setting)?;
         if !wake_at(&mut self.seats, alloc, node, setting)? {
-            self.annals.enter_failure(node, room);
+            self.annals.enter_failure(node);
         }
         Ok(())
     }

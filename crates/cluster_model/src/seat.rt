@@ -1,20 +1,23 @@
 //! One node of a cluster.
 
-ghost use Rattle.std.specs.Prelude.{◌≡◌, ◌++◌, [], ◌∷◌, Bool, IfOk, OnOk, OnErr};
-ghost use Rattle.peer_messages.specs.Settings.{up_of};
+ghost use Rattle.std.specs.Prelude.{◌≡◌, ◌++◌, ◌≤◌, [], ◌∷◌, Bool, IfOk, OnOk, OnErr};
+ghost use Rattle.std.specs.List.{range_with_len};
 ghost use Rattle.durable_state.specs.State.{Durable};
 ghost use Rattle.cluster_model.specs.Takes.{event_at};
 ghost use Rattle.cluster_model.specs.Faults.{is_failure, planned};
 ghost use Rattle.cs_store.specs.Disk.{Passes, Stays};
 ghost use Rattle.cs_store.specs.Mem.{disk_of, plan_of};
 ghost use Rattle.cluster_model.specs.Sites.{keeper, Crashed, HasLeft, MayTake, MayWake, StopsBy, StaysAt, TellsBy, Turns, Loads, Puts, WakesBy, SleepsBy};
+ghost use Rattle.cluster_model.specs.State.{is_up};
+ghost use Rattle.cluster_model.specs.Holding.{showing_of};
 
 use crate::told::{Told, has_failure, has_halt, tell_all};
 use crate::turn::Turn;
-use cs_base::{Items, Micros, NodeId};
+use chronicle_pieces::Alive;
+use cs_base::{Micros, NodeId};
 use cs_store::{FileNo, MemStore, Outcome, Store};
 use node_core::{Node, StepError};
-use peer_messages::{Event, Invalid, NodeIds, Refusal, Setting, What, is_in};
+use peer_messages::{Event, Invalid, Refusal, Setting, What};
 use replica::{LoadError, MemReplica};
 use std::alloc::{AllocError, Global};
 use std::mem;
@@ -87,25 +90,21 @@ fn crashed_part<R: MemReplica>(part: Part<R>, outcome: Outcome) -> Part<R>
     }
 }
 
-/// What is left in the place of a node whose step failed, and whether it was the store that stopped the node.
-fn fallen_part<R: MemReplica>(part: Part<R>) -> (Part<R>, bool)
-    ensures { StopsBy (keeper R.stands_for R.durable R.disk R.is_whole) part result.0 }
+/// The node whose step failed leaves its store in its place. It tells whether it was the store that stopped the node.
+fn fall_in<R: MemReplica>(part: &mut Part<R>) -> bool
+    ensures { StopsBy (keeper R.stands_for R.durable R.disk R.is_whole) part.old part.new }
 {
-    match part {
+    match mem::replace(part, Part::Lent) {
         Part::Runs(node) => {
             let (store, is_stopped) = fallen(node);
-            (Part::Rests(store), is_stopped)
+            drop(mem::replace(part, Part::Rests(store)));
+            is_stopped
         }
-        part => (part, false),
+        rest => {
+            drop(mem::replace(part, rest));
+            false
+        }
     }
-}
-
-/// Those of all nodes that are not among these.
-fn alive_of(mut nodes: Vec<NodeId>, down: &[NodeId]) -> NodeIds
-    ensures { result ≡ up_of down.now nodes.items }
-{
-    nodes.retain(|node| !is_in(down, *node));
-    Items::from_vec(nodes)
 }
 
 /// The store of a replica is told a fault.
@@ -142,6 +141,13 @@ fn load<R: MemReplica>(
 }
 
 impl<R: MemReplica> Seat<R> {
+    /// Whether the node runs.
+    pub fn runs(&self) -> bool
+        ensures { result ≡ is_up (showing_of (keeper R.stands_for R.durable R.disk R.is_whole) self.now.part) }
+    {
+        matches!(self.part, Part::Runs(_))
+    }
+
     /// The node crashes. One that is down stays so.
     pub fn stop(&mut self, outcome: Outcome)
         ensures part { StopsBy (keeper R.stands_for R.durable R.disk R.is_whole) self.old.part self.new.part }
@@ -149,8 +155,17 @@ impl<R: MemReplica> Seat<R> {
         ensures told { self.new.told.items ≡ [] }
     {
         let part = mem::replace(&mut self.part, Part::Lent);
-        self.part = crashed_part(part, outcome);
+        self.set_part(crashed_part(part, outcome));
         self.told.clear();
+    }
+
+    /// The node whose step failed is down. It tells whether it was its store that stopped it.
+    fn fall(&mut self) -> bool
+        ensures part { StopsBy (keeper R.stands_for R.durable R.disk R.is_whole) self.old.part self.new.part }
+        ensures clock { self.new.clock ≡ self.old.clock }
+        ensures told { self.new.told ≡ self.old.told }
+    {
+        fall_in(&mut self.part)
     }
 
     /// The node whose step failed is down. It tells whether a call failed, and none stopped it.
@@ -160,33 +175,29 @@ impl<R: MemReplica> Seat<R> {
         ensures told { self.new.told.items ≡ [] }
         ensures failed { (stopped : Bool) × (result ≡ is_failure self.old.told.items stopped) }
     {
-        let (part, is_stopped) = fallen_part(mem::replace(&mut self.part, Part::Lent));
-        self.part = part;
+        let is_stopped = self.fall();
         let has_failed = has_failure(&self.told) && !(has_halt(&self.told) && is_stopped);
         self.told.clear();
         has_failed
     }
 
-    /// The node takes an event, in a cluster of these nodes. At an error nothing has happened.
-    pub fn take(
-        &mut self,
-        alloc: Global,
-        nodes: Vec<NodeId>,
-        what: What,
-    ) -> Result<Turn, AllocError>
-        requires { MayTake (keeper R.stands_for R.durable R.disk R.is_whole) self.old.part }
-        ensures ok { IfOk result (λ turn. Turns (keeper R.stands_for R.durable R.disk R.is_whole) nodes.items self.old (event_at self.old.clock what) turn self.new) }
+    /// The node takes an event, in a cluster of so many nodes. At an error nothing has happened.
+    pub fn take(&mut self, alloc: Global, nodes: u8, what: What) -> Result<Turn, AllocError>
+        requires few { nodes ≤ 7 }
+        requires part { MayTake (keeper R.stands_for R.durable R.disk R.is_whole) self.old.part }
+        ensures ok { IfOk result (λ turn. Turns (keeper R.stands_for R.durable R.disk R.is_whole) (range_with_len 0 nodes) self.old (event_at self.old.clock what) turn self.new) }
         ensures err { OnErr result (StaysAt (keeper R.stands_for R.durable R.disk R.is_whole) self.old self.new) }
     {
+        let Part::Runs(node) = &mut self.part else {
+            drop(what);
+            return Ok(Turn::Refused(Refusal::Down));
+        };
         let event = Event {
             clock: self.clock,
             what,
         };
-        let Part::Runs(node) = &mut self.part else {
-            return Ok(Turn::Refused(Refusal::Down));
-        };
         match node.step(alloc, event) {
-            Ok(outputs) => Ok(Turn::Stepped(outputs, alive_of(nodes, node.core.down()))),
+            Ok(outputs) => Ok(Turn::Stepped(outputs, Alive::beside(nodes, node.core.down()))),
             Err(StepError::Failed(lost)) => Ok(Turn::Stopped(lost, self.halt())),
             Err(StepError::NoRoom) => Ok(Turn::Refused(Refusal::Overloaded)),
             Err(StepError::TooLarge(_)) => Ok(Turn::Refused(Refusal::Invalid(
@@ -210,22 +221,29 @@ impl<R: MemReplica> Seat<R> {
         Ok(())
     }
 
+    /// This is in the place of the node from here on.
+    fn set_part(&mut self, part: Part<R>)
+        ensures { self.new ≡ record self.old { part = part } }
+    {
+        drop(mem::replace(&mut self.part, part));
+    }
+
     /// What came of a load is put in its place.
     fn put(&mut self, woken: Woken<R>) -> Result<bool, AllocError>
         ensures { Puts self.old woken result self.new }
     {
         match woken {
             Woken::Up(node) => {
-                self.part = Part::Runs(node);
+                self.set_part(Part::Runs(node));
                 Ok(true)
             }
             Woken::Failed(store) => {
-                self.part = Part::Rests(store);
+                self.set_part(Part::Rests(store));
                 self.told.clear();
                 Ok(false)
             }
             Woken::NoMemory(store) => {
-                self.part = Part::Rests(store);
+                self.set_part(Part::Rests(store));
                 Err(AllocError)
             }
         }
@@ -243,7 +261,7 @@ impl<R: MemReplica> Seat<R> {
                 self.put(woken)
             }
             part => {
-                self.part = part;
+                self.set_part(part);
                 Ok(true)
             }
         }

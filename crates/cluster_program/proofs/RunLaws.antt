@@ -1,18 +1,17 @@
 -- The run of a script goes on by one event.
-use Rattle.std.proofs.Common.{◌≡◌, ℕ, zero, suc, Option, Some, None, List, [], ◌∷◌, ◌++◌, refl, sym, ap, subst, ◌∙◌, append_assoc, reverse}
-use Rattle.std.proofs.lemmas.Grind.{flat_map-append}
-use Rattle.std.proofs.lemmas.List.{append-nil, reverse-append}
+use Rattle.std.proofs.Common.{◌≡◌, ℕ, zero, suc, Option, Some, None, List, [], ◌∷◌, ◌++◌, refl, sym, ap, subst, ◌∙◌, append_assoc}
+use Rattle.std.proofs.lemmas.List.{append-nil}
 use Rattle.std.specs.Prelude.{Result, Ok, Err, IfOk, slice_get}
 use Rattle.cs_store.specs.declared.mem.MemStore.{MemStore}
 use Rattle.cs_store.specs.Images.{Images, quiet, formatted_bytes}
 use Rattle.cs_store.specs.Mem.{images_of}
-use Rattle.peer_messages.specs.declared.chronicle.Entry.{Entry}
 use Rattle.peer_messages.specs.declared.setting.Setting.{Setting}
 use Rattle.answer_causes.specs.AnswersRight.{AnswersRight}
 use Rattle.read_consistency.specs.ReadRight.{ReadRight}
+use Rattle.reads_forward.specs.ReadsForward.{ReadsForward}
 use Rattle.schema_book.specs.Books.{Book}
 use Rattle.schema_book.specs.declared.table.Table.{Table}
-use Rattle.chronicle_print.specs.Printed.{IsInPrint, joined}
+use Rattle.chronicle_print.specs.Printed.{IsInPrint}
 use Rattle.cluster_model.specs.Beginning.{Begins, IsFormatted, AreFormatted}
 use Rattle.cluster_model.specs.State.{ClusterState, IsReached, AreFresh, KeepsOn}
 use Rattle.cluster_model.specs.Takes.{Takes}
@@ -21,7 +20,7 @@ use Rattle.durable_state.specs.State.{Durable}
 use Rattle.fault_script.specs.declared.script.Script.{Script}
 use Rattle.fault_script.specs.declared.script.ScriptEvent.{ScriptEvent}
 use Rattle.cluster_program.specs.Requests.{IsEventOf, setting_of}
-use Rattle.cluster_program.specs.Runs.{newest, keyspace_after, Plays, IsFresh, IsRunInPrint}
+use Rattle.cluster_program.specs.Runs.{keyspace_after, Plays, IsFresh, IsRunInPrint}
 use Rattle.cluster_program.specs.Stops.{StopsAreNamed}
 use Rattle.cluster_program.proofs.StopLaws.{stops_are_named}
 
@@ -41,31 +40,6 @@ plays_more book start v mid done keyspace e event h is takes rest v' later =
 
 pub plays_all : (book : Book) (start v : ClusterState) (done : List ScriptEvent) (keyspace : Option (List ℕ)) → PlaysOn book start done keyspace v → Plays book None start done v
 plays_all book start v done keyspace h = subst (λ (es : List ScriptEvent). Plays book None start es v) (append-nil done) (h [] v refl)
-
--- ---- the newest entry
-
--- an empty piece at the end is passed over
-pub newest_before : (front : List Entry) (piece : List Entry) → piece ≡ [] → newest (reverse (front ++ piece)) ≡ newest (reverse front)
-newest_before front piece none = ap (λ (es : List Entry). newest (reverse es)) (ap (λ (es : List Entry). front ++ es) none ∙ append-nil front)
-
-pub newest_last : (front : List Entry) (piece : List Entry) (e : Entry) → newest (reverse (front ++ (piece ++ e ∷ []))) ≡ Some e
-newest_last front piece e =
-    ap (λ (es : List Entry). newest (reverse es)) (sym (append_assoc front piece (e ∷ []))) ∙ ap newest (reverse-append (front ++ piece) (e ∷ []))
-
--- ---- in pieces
-
-joined_last : (front : List (List Entry)) (piece : List Entry) → joined (front ++ piece ∷ []) ≡ joined front ++ piece
-joined_last front piece = flat_map-append (λ (es : List Entry). es) front (piece ∷ []) ∙ ap (λ (es : List Entry). joined front ++ es) (append-nil piece)
-
--- the last piece has no entry
-pub newest_skips : (rest front : List (List Entry)) (piece : List Entry) → rest ≡ front ++ piece ∷ [] → piece ≡ [] → newest (reverse (joined rest)) ≡ newest (reverse (joined front))
-newest_skips rest front piece split none =
-    ap (λ (pieces : List (List Entry)). newest (reverse (joined pieces))) split ∙ (ap (λ (es : List Entry). newest (reverse es)) (joined_last front piece) ∙ newest_before (joined front) piece none)
-
-pub newest_found : (rest front : List (List Entry)) (piece before : List Entry) (e : Entry) → rest ≡ front ++ piece ∷ [] → piece ≡ before ++ e ∷ [] → newest (reverse (joined rest)) ≡ Some e
-newest_found rest front piece before e split last =
-    ap (λ (pieces : List (List Entry)). newest (reverse (joined pieces))) split
-    ∙ (ap (λ (es : List Entry). newest (reverse es)) (joined_last front piece ∙ ap (λ (es : List Entry). joined front ++ es) last) ∙ newest_last (joined front) before e)
 
 -- ---- stores
 
@@ -100,8 +74,8 @@ keeps_more v mid v' before then_on = record { setting = then_on.setting ∙ befo
 -- ---- the whole run
 
 pub in_print : (script : Script) (text : List ℕ) (tables : List Table) (c : Setting) (before after : ClusterState) (es : List ScriptEvent) → KeepsOn before after → c ≡ setting_of script → IsFresh c before → es ≡ script.events → tables ≡ script.schema.tables
-    → Plays script.schema None before es after → IsReached after → (AreFresh after.setting after.first → ReadRight after.setting after.chronicle) → (AreFresh after.setting after.first → AnswersRight after.setting after.chronicle) → IsInPrint tables after.chronicle text → IsRunInPrint script text
-in_print script text tables c before after es kept setting fresh events same plays reached right causes print =
+    → Plays script.schema None before es after → IsReached after → (AreFresh after.setting after.first → ReadRight after.setting after.chronicle) → (AreFresh after.setting after.first → ReadsForward after.setting after.chronicle) → (AreFresh after.setting after.first → AnswersRight after.setting after.chronicle) → IsInPrint tables after.chronicle text → IsRunInPrint script text
+in_print script text tables c before after es kept setting fresh events same plays reached right forward causes print =
     let same_setting : after.setting ≡ c = kept.setting ∙ fresh.setting in
     let as_first : AreFresh c after.first = subst (AreFresh c) (sym kept.first) fresh.first in
     let of_setting : AreFresh after.setting after.first = subst (λ (d : Setting). AreFresh d after.first) (sym same_setting) as_first in
@@ -113,6 +87,7 @@ in_print script text tables c before after es kept setting fresh events same pla
       reached = reached;
       named = subst (λ (xs : List ScriptEvent). StopsAreNamed xs after.sites) events (stops_are_named script.schema es before after before.first fresh.sites plays);
       right = subst (λ (d : Setting). ReadRight d after.chronicle) (same_setting ∙ setting) (right of_setting);
+      forward = subst (λ (d : Setting). ReadsForward d after.chronicle) (same_setting ∙ setting) (forward of_setting);
       causes = subst (λ (d : Setting). AnswersRight d after.chronicle) (same_setting ∙ setting) (causes of_setting);
       print = subst (λ (ts : List Table). IsInPrint ts after.chronicle text) same print;
     }

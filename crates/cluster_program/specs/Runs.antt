@@ -1,7 +1,8 @@
 -- A text that is the run of a script in print.
-use Rattle.std.specs.Prelude.{◌≡◌, ℕ, Option, Some, None, List, [], ◌∷◌, map}
+use Rattle.std.specs.Prelude.{◌≡◌, ℕ, Bool, true, false, Option, Some, None, List, [], ◌∷◌, map}
 use Rattle.answer_causes.specs.AnswersRight.{AnswersRight}
 use Rattle.read_consistency.specs.ReadRight.{ReadRight}
+use Rattle.reads_forward.specs.ReadsForward.{ReadsForward}
 use Rattle.schema_book.specs.Books.{Book}
 use Rattle.peer_messages.specs.declared.chronicle.Entry.{Entry}
 use Rattle.peer_messages.specs.declared.chronicle.Entry.TheVariants.{Used}
@@ -23,6 +24,15 @@ named_by e keyspace = keyspace
 abbrev pub newest : List Entry → Option Entry
 newest [] = None
 newest (e ∷ earlier) = Some e
+
+-- the name that an entry gives
+abbrev pub name_in : Option Entry → Option (List ℕ)
+name_in None = None
+name_in (Some e) = named_by e None
+
+abbrev pub is_nothing : List Entry → Bool
+is_nothing [] = true
+is_nothing (e ∷ earlier) = false
 
 abbrev pub named_by_any : Option Entry → Option (List ℕ) → Option (List ℕ)
 named_by_any None keyspace = keyspace
@@ -48,7 +58,7 @@ pub record IsFresh (c : Setting) (v : ClusterState) : Type 0 where
   pub chronicle : v.chronicle ≡ []
 
 -- The text is the printed chronicle of a run of fresh nodes with just the script's events, in which each answered read is
--- right, each request is told what it is told for its cause, and each node runs on that no line stops
+-- right and goes forward, each request is told what it is told for its cause, and each node runs on that no line stops
 pub record IsRunInPrint (script : Script) (text : List ℕ) : Type 0 where
   pub before : ClusterState
   pub after : ClusterState
@@ -57,5 +67,6 @@ pub record IsRunInPrint (script : Script) (text : List ℕ) : Type 0 where
   pub reached : IsReached after
   pub named : StopsAreNamed script.events after.sites
   pub right : ReadRight (setting_of script) after.chronicle
+  pub forward : ReadsForward (setting_of script) after.chronicle
   pub causes : AnswersRight (setting_of script) after.chronicle
   pub print : IsInPrint script.schema.tables after.chronicle text

@@ -1,6 +1,7 @@
 //! The program: all that it does is the one call `run_cluster`.
 #![tactic(auto)]
 
+mod keyspace;
 mod program;
 mod requests;
 mod run;

@@ -180,7 +180,7 @@ fn numbered_line(alloc: Global, number: u64, text: &str) -> Result<Vec<u8>, Allo
     ensures { IfOk result (λ line. line.items ≡ decimal number ++ (text.now ++ 10 ∷ [])) }
 {
     let mut line = Vec::new(alloc);
-    push_number(alloc, &mut line, number)?;
+    push_number(&mut line, number)?;
     line.extend_from_slice(text.as_bytes())?;
     line.push(b'\n')?;
     Ok(line)
@@ -190,9 +190,9 @@ fn cql_line(alloc: Global, number: u64, at: usize) -> Result<Vec<u8>, AllocError
     ensures { IfOk result (λ line. line.items ≡ error_line_of (ScriptError.Cql number at)) }
 {
     let mut line = Vec::new(alloc);
-    push_number(alloc, &mut line, number)?;
+    push_number(&mut line, number)?;
     line.extend_from_slice(b": cql refused at ")?;
-    push_number(alloc, &mut line, at as u64)?;
+    push_number(&mut line, at as u64)?;
     line.push(b'\n')?;
     Ok(line)
 }
@@ -310,7 +310,7 @@ pub fn run_cluster<S: Source, T: Sink>(
             sink,
             b"usage: script\nscript      reads a fault script from standard input, runs it, and writes its answers\n--help      writes this\n--version   writes the version, and the toolchain that it is proved with\n",
         ),
-        Some(Command::Version) => tell(sink, b"biropuve 0.1.0, proved with rattle-kit-13f\n"),
+        Some(Command::Version) => tell(sink, b"biropuve 0.1.0, proved with rattle-kit-13b\n"),
         None => {
             leave_line(sink, b"usage: script\n");
             Status::Usage

@@ -1,14 +1,14 @@
 //! The run of a script, in print.
 
-ghost use Rattle.std.specs.Prelude.{◌≡◌, ◌≤◌, None, All, length, IfOk, OnOk, IsTrue, option_copied, reverse};
+ghost use Rattle.std.specs.Prelude.{◌≡◌, ◌≤◌, None, All, length, IfOk, OnOk, option_copied};
 ghost use Rattle.fault_script.specs.Script.{IsSaid};
-ghost use Rattle.chronicle_print.specs.Printed.{joined};
 ghost use Rattle.peer_messages.specs.declared.setting.Setting.{Setting as setting_value};
 ghost use Rattle.cluster_model.specs.Beginning.{AreFormatted};
 ghost use Rattle.cluster_model.specs.State.{KeepsOn};
 ghost use Rattle.cluster_program.specs.Lines.{ArePrepared, HasKv};
-ghost use Rattle.cluster_program.specs.Runs.{newest as newest_of, keyspace_after as keyspace_after_entries, IsFresh, IsRunInPrint, Plays};
+ghost use Rattle.cluster_program.specs.Runs.{IsFresh, IsRunInPrint, Plays};
 
+use crate::keyspace::keyspace_after;
 use crate::requests::{event_of, setting_of};
 use crate::statements::LineStatements;
 use chronicle_print::print_chronicle;
@@ -16,7 +16,7 @@ use cluster_model::{Cluster, ClusterError};
 use cs_base::Text;
 use cs_store::MemStore;
 use fault_script::{Script, ScriptEvent};
-use peer_messages::{Entries, Entry, Setting};
+use peer_messages::Setting;
 use replica::MemReplica;
 use schema_book::Schema;
 use std::alloc::{AllocError, Global};
@@ -28,34 +28,6 @@ fn name_of(keyspace: &Option<Text>) -> Option<&str>
     match keyspace {
         Some(name) => Some(name.as_str()),
         None => None,
-    }
-}
-
-/// The newest entry of a chronicle in pieces.
-fn newest(pieces: &[Entries]) -> Option<&Entry>
-    ensures { option_copied result ≡ newest_of (reverse (joined pieces.now)) }
-{
-    let mut left = pieces.len();
-    while left > 0 {
-        left -= 1;
-        if let Some(entry) = pieces[left].as_slice().last() {
-            return Some(entry);
-        }
-    }
-    None
-}
-
-/// The keyspace in use behind these entries: the one that the newest entry names, or else the one before.
-fn keyspace_after(
-    alloc: Global,
-    keyspace: Option<Text>,
-    chronicle: &[Entries],
-) -> Result<Option<Text>, AllocError>
-    ensures { IfOk result (λ next. next ≡ keyspace_after_entries keyspace (reverse (joined chronicle.now))) }
-{
-    match newest(chronicle) {
-        Some(Entry::Used(_, name)) => Ok(Some(name.copy(alloc)?)),
-        _ => Ok(keyspace),
     }
 }
 

@@ -1,9 +1,10 @@
 //! The statements of the lines `put` and `get`, which are for the table `script.kv (k text, c text, v text, PRIMARY KEY (k, c))`:
 //! prepared once a run, with a marker for each word of a line.
 
-ghost use Rattle.std.specs.Prelude.{◌≡◌, IfOk};
+ghost use Rattle.std.specs.Prelude.{◌≡◌, None, IfOk};
 ghost use Rattle.std.specs.Int.{cast_unsigned, to_be_bytes, w64};
 ghost use Rattle.cql_values.specs.declared.value.CqlType.TheVariants as types;
+ghost use Rattle.prepared_statement.specs.Prepared.{outline_of};
 ghost use Rattle.prepared_statement.specs.Slots.{stands_for};
 ghost use Rattle.prepared_statement.specs.declared.slot.Stands.TheVariants.{Own};
 ghost use Rattle.statement_values.specs.declared.params.Param.TheVariants.{Given};
@@ -119,14 +120,39 @@ fn marked_get(alloc: Global) -> Result<Statement, AllocError>
     }))
 }
 
+/// A statement of a line, prepared.
+fn prepared(alloc: Global, schema: &Schema, statement: Statement) -> Result<Prepared, AllocError>
+    ensures { IfOk result (λ prepared. prepared ≡ outline_of schema.now None statement) }
+{
+    let prepared = outline(alloc, schema, None, &statement);
+    drop(statement);
+    prepared
+}
+
+fn prepared_put(alloc: Global, schema: &Schema) -> Result<Prepared, AllocError>
+    ensures { IfOk result (λ prepared. prepared ≡ outline_of schema.now None marked_put_of) }
+{
+    prepared(alloc, schema, marked_put(alloc)?)
+}
+
+fn prepared_get(alloc: Global, schema: &Schema) -> Result<Prepared, AllocError>
+    ensures { IfOk result (λ prepared. prepared ≡ outline_of schema.now None marked_get_of) }
+{
+    prepared(alloc, schema, marked_get(alloc)?)
+}
+
 impl LineStatements {
     pub fn prepare(alloc: Global, schema: &Schema) -> Result<LineStatements, AllocError>
         ensures { IfOk result (ArePrepared schema.now) }
     {
-        Ok(LineStatements {
-            put: outline(alloc, schema, None, &marked_put(alloc)?)?,
-            get: outline(alloc, schema, None, &marked_get(alloc)?)?,
-        })
+        let put = prepared_put(alloc, schema)?;
+        match prepared_get(alloc, schema) {
+            Ok(get) => Ok(LineStatements { put, get }),
+            Err(error) => {
+                drop(put);
+                Err(error)
+            }
+        }
     }
 }
 

@@ -6,15 +6,16 @@ use Rattle.std.proofs.lemmas.List.Elements.{Contains-append_cases}
 use Rattle.cs_base.proofs.Members.{contains_nil, contains_filter, contains_from_filter}
 use Rattle.cs_base.proofs.Slots.{get_set}
 use Rattle.changes.specs.declared.Held.{Held}
+use Rattle.changes.specs.declared.Mutation.{Mutation}
 use Rattle.row_change.specs.declared.entry.Hint.{Hint}
 use Rattle.peer_messages.specs.declared.chronicle.Entry.{Entry}
-use Rattle.peer_messages.specs.declared.message.Body.TheVariants.{ReadReply}
+use Rattle.peer_messages.specs.declared.message.Body.TheVariants.{ReadReply, Mend}
 use Rattle.peer_messages.specs.declared.message.Message.{Message}
 use Rattle.peer_messages.specs.declared.event.Event.{Event}
 use Rattle.peer_messages.specs.declared.setting.Setting.{Setting}
 use Rattle.durable_state.specs.State.{Durable, IsSameKept, hints_of}
 use Rattle.node_steps.specs.State.{NodeState, loaded, fresh_node}
-use Rattle.node_steps.specs.Fitting.{is_node, changes_fit, mutation_fits, message_fits}
+use Rattle.node_steps.specs.Fitting.{is_node, changes_fit, mutation_fits, write_fits, message_fits}
 use Rattle.node_steps.specs.Holding.{HoldsFit}
 use Rattle.node_steps.specs.Stops.{remains_in}
 use Rattle.node_steps.proofs.Written.{held_written, sent_written}
@@ -39,7 +40,8 @@ same_length zero x = refl
 same_length (suc n) x = ap suc (same_length n x)
 
 abbrev FitsThere : Setting → Message → Type 0
-FitsThere c m = ((content : List Held) → m.body ≡ ReadReply content → IsTrue (changes_fit content)) → IsTrue (message_fits c m.upto m)
+FitsThere c m =
+    ((content : List Held) → m.body ≡ ReadReply content → IsTrue (changes_fit content)) → ((merged : Mutation) → m.body ≡ Mend merged → IsTrue (write_fits c merged)) → IsTrue (message_fits c m.upto m)
 
 -- what a node keeps in its store can be written
 abbrev KeepsFit : Durable → Type 0

@@ -13,7 +13,7 @@ use Rattle.changes.proofs.Ranks.{request_made}
 use Rattle.peer_messages.specs.declared.event.Plan.{Plan}
 use Rattle.peer_messages.specs.declared.event.Plan.TheVariants as plan
 use Rattle.peer_messages.specs.declared.message.Body.{Body}
-use Rattle.peer_messages.specs.declared.message.Body.TheVariants.{Write, WriteAck, Read, ReadReply, Hint, HintAck}
+use Rattle.peer_messages.specs.declared.message.Body.TheVariants.{Write, WriteAck, Read, ReadReply, Mend, MendAck, Hint, HintAck}
 use Rattle.peer_messages.specs.declared.chronicle.Entry.{Entry}
 use Rattle.peer_messages.specs.declared.chronicle.Entry.TheVariants.{Asked, Submitted, Acked, Refused, Used, Began, Rows, Marks as Marked, Time, Turned, Tables, Stopped}
 use Rattle.peer_messages.specs.declared.chronicle.Refusal.{Refusal}
@@ -26,8 +26,9 @@ use Rattle.node_steps.specs.Effects.{Effects, nothing, open_at, Takes}
 use Rattle.node_steps.specs.Replicas.{Asker}
 use Rattle.node_steps.specs.Requests.{refusal_of, Begins, BeginsOrRefuses}
 use Rattle.node_steps.specs.Writes.{acks_of, write_needs, is_enough, heard_write, ack_told, ack_turn, HearsAck}
-use Rattle.node_steps.specs.Reads.{HearsReply, TellsRows, MergesReply, is_stray, heard_by, replies_of, read_needs}
-use Rattle.node_steps.specs.Acts.{Act, Rises, Hears, Asks, Marks, DeadlineComes, HintExpires, Incoming, Does, HearsBody, Ends, EndsRead, request_at, is_old, asker_of}
+use Rattle.node_steps.specs.Fitting.{write_fits}
+use Rattle.node_steps.specs.Reads.{HearsReply, TellsRows, MergesReply, is_stray, heard_by, replies_of, read_needs, differing, mends, AwaitsMends, is_awaited, mended_by, HearsMendAck}
+use Rattle.node_steps.specs.Acts.{Act, Rises, Hears, Asks, Marks, DeadlineComes, HintExpires, Incoming, Does, HearsBody, TakesChanges, Ends, EndsRead, request_at, is_old, asker_of}
 use Rattle.cluster_runs.specs.Chronicle.{submission_of}
 use Rattle.cluster_runs.specs.Trace.{IsTold}
 
@@ -191,26 +192,44 @@ ack_takes : (c : Setting) (id : ReqId) (from : ℕ) (xs xs' : List (ReqId × Ope
 ack_takes c id from xs xs' None turn h = none_in_quiet turn h.0
 ack_takes c id from xs xs' (Some w) turn (w', (is, same), after) = subst (λ (t : Move). SubmitNothing t.entries) (sym is) (none_in_turn c id (heard_write c from w))
 
-reply_counts : (b : Bool) (id : ReqId) (r r' : OpenRead) (turn : Move) → MatchBool b ((turn ≡ quiet) × (r' ≡ r)) (TellsRows id r turn) → SubmitNothing turn.entries
-reply_counts true id r r' turn h = none_in_quiet turn h.0
-reply_counts false id r r' turn h = none_in_rows id r turn h
+awaits_mends : (id : ReqId) (r r' : OpenRead) (ks : List ℕ) (sent turn : Move) → SubmitNothing sent.entries → AwaitsMends id r ks sent turn r' → SubmitNothing turn.entries
+awaits_mends id r r' [] sent turn none h = none_in_rows id r turn h
+awaits_mends id r r' (k ∷ ks) sent turn none h = subst (λ (t : Move). SubmitNothing t.entries) (sym h.0) none
+
+reply_counts : (b : Bool) (c : Setting) (id : ReqId) (r r' : OpenRead) (turn : Move) → MatchBool b ((turn ≡ quiet) × (r' ≡ r)) (AwaitsMends id r (differing c r) (mends id r (differing c r)) turn r') → SubmitNothing turn.entries
+reply_counts true c id r r' turn h = none_in_quiet turn h.0
+reply_counts false c id r r' turn h = awaits_mends id r r' (differing c r) (mends id r (differing c r)) turn none_in_nil h
 
 reply_merges : (b : Bool) (c : Setting) (id : ReqId) (from : ℕ) (content : List Held) (r r' : OpenRead) (turn : Move) → MatchBool b ((turn ≡ quiet) × (r' ≡ r)) (MergesReply c id from content r turn r') → SubmitNothing turn.entries
 reply_merges true c id from content r r' turn h = none_in_quiet turn h.0
-reply_merges false c id from content r r' turn (n, is, merge, counts) = reply_counts (nat_lt (replies_of c n) (read_needs c n)) id n r' turn counts
+reply_merges false c id from content r r' turn (n, is, merge, counts) = reply_counts (nat_lt (replies_of c n) (read_needs c n)) c id n r' turn counts
 
 reply_takes : (c : Setting) (id : ReqId) (from : ℕ) (content : List Held) (xs xs' : List (ReqId × OpenRead)) (o : Option OpenRead) (turn : Move) → Takes (HearsReply c id from content) id xs o turn xs' → SubmitNothing turn.entries
 reply_takes c id from content xs xs' None turn h = none_in_quiet turn h.0
 reply_takes c id from content xs xs' (Some r) turn (r', step, same) = reply_merges (is_stray c from r) c id from content r r' turn step
 
+mend_acked : (b : Bool) (id : ReqId) (r r' : OpenRead) (ks : List ℕ) (turn : Move) → MatchBool b (AwaitsMends id r ks quiet turn r') ((turn ≡ quiet) × (r' ≡ r)) → SubmitNothing turn.entries
+mend_acked true id r r' ks turn h = awaits_mends id r r' ks quiet turn none_in_nil h
+mend_acked false id r r' ks turn h = none_in_quiet turn h.0
+
+mend_ack_takes : (c : Setting) (id : ReqId) (from : ℕ) (xs xs' : List (ReqId × OpenRead)) (o : Option OpenRead) (turn : Move) → Takes (HearsMendAck c id from) id xs o turn xs' → SubmitNothing turn.entries
+mend_ack_takes c id from xs xs' None turn h = none_in_quiet turn h.0
+mend_ack_takes c id from xs xs' (Some r) turn (r', step, same) = mend_acked (is_awaited r.mending from) id r r' (mended_by r.mending from) turn step
+
 none_in : (o p : Effects) → o ≡ p → SubmitNothing p.entries → SubmitNothing o.entries
 none_in o p is none = subst (λ (x : Effects). SubmitNothing x.entries) (sym is) none
+
+mend_submits : (a : Asker) (m : Mutation) (fits : Bool) (s : NodeState) (o : Effects) (s' : NodeState) → MatchBool fits (TakesChanges a m.partition m.changes MendAck s o s') ((o ≡ nothing) × (s' ≡ s)) → SubmitNothing o.entries
+mend_submits a m true s o s' h = none_in o _ h.2 none_in_nil
+mend_submits a m false s o s' h = none_in o _ h.0 none_in_nil
 
 body_submits : (c : Setting) (me : ℕ) (a : Asker) (b : Body) (s : NodeState) (o : Effects) (s' : NodeState) → HearsBody c me a b s o s' → SubmitNothing o.entries
 body_submits c me a (Write m) s o s' h = none_in o _ h.2 none_in_nil
 body_submits c me a WriteAck s o s' (turn, moves, is, same) = none_in o _ is (ack_takes c a.request a.from s.writes s'.writes (open_at s.writes a.request) turn moves)
 body_submits c me a (Read q) s o s' h = none_in o _ h.2 none_in_nil
 body_submits c me a (ReadReply content) s o s' (turn, moves, is, same) = none_in o _ is (reply_takes c a.request a.from content s.reads s'.reads (open_at s.reads a.request) turn moves)
+body_submits c me a (Mend m) s o s' h = mend_submits a m (write_fits c m) s o s' h
+body_submits c me a MendAck s o s' (turn, moves, is, same) = none_in o _ is (mend_ack_takes c a.request a.from s.reads s'.reads (open_at s.reads a.request) turn moves)
 body_submits c me a (Hint number m) s o s' h = none_in o _ h.2 none_in_nil
 body_submits c me a (HintAck number) s o s' h = none_in o _ h.0 none_in_nil
 

@@ -4,18 +4,20 @@ use Rattle.std.specs.Prelude.{slice_get, slice_set, nat_lt, if◌then◌else◌,
 use Rattle.std.proofs.lemmas.Bool.{ltb-false}
 use Rattle.cs_base.specs.declared.ids.ReqId.{ReqId}
 use Rattle.cs_base.specs.declared.level.Level.{Level}
+use Rattle.changes.specs.declared.Mutation.{Mutation}
 use Rattle.peer_messages.specs.declared.event.Plan.{Plan}
 use Rattle.peer_messages.specs.declared.event.Plan.TheVariants as plan
 use Rattle.peer_messages.specs.declared.message.Body.{Body}
-use Rattle.peer_messages.specs.declared.message.Body.TheVariants.{Write, WriteAck, Read, ReadReply, Hint, HintAck}
+use Rattle.peer_messages.specs.declared.message.Body.TheVariants.{Write, WriteAck, Read, ReadReply, Mend, MendAck, Hint, HintAck}
 use Rattle.peer_messages.specs.declared.chronicle.Refusal.{Refusal}
 use Rattle.peer_messages.specs.declared.setting.Setting.{Setting}
 use Rattle.node_steps.specs.State.{NodeState, OpenWrite, OpenRead, loaded, fresh_node}
 use Rattle.node_steps.specs.Effects.{Effects, nothing, open_at}
 use Rattle.node_steps.specs.Hints.{with_sent, is_last, hint_done}
+use Rattle.node_steps.specs.Fitting.{write_fits}
 use Rattle.node_steps.specs.Replicas.{Asker}
 use Rattle.node_steps.specs.Requests.{refusal_of, Begins, BeginsOrRefuses}
-use Rattle.node_steps.specs.Acts.{Act, Rises, Hears, Asks, Marks, DeadlineComes, HintExpires, Incoming, Deed, Does, HearsBody, Ends, EndsRead, mark_state, ceiling_after, is_old, asker_of, request_at}
+use Rattle.node_steps.specs.Acts.{Act, Rises, Hears, Asks, Marks, DeadlineComes, HintExpires, Incoming, Deed, Does, HearsBody, TakesChanges, Ends, EndsRead, mark_state, ceiling_after, is_old, asker_of, request_at}
 use Rattle.cluster_runs.specs.Trace.{Scene, Trace, begun, moved, wakes, forgets, free}
 use Rattle.cs_base.proofs.Slots.{get_set}
 use Rattle.cluster_runs.proofs.Lists.{all_same}
@@ -64,11 +66,17 @@ acked_times c false s peer number = same_times s _ _ refl refl refl refl
 to_later : (s s' r : NodeState) → s' ≡ r → Later s r → Later s s'
 to_later s s' r is h = subst (λ (x : NodeState). Later s x) (sym is) h
 
+mend_later : (a : Asker) (m : Mutation) (fits : Bool) (s : NodeState) (o : Effects) (s' : NodeState) → MatchBool fits (TakesChanges a m.partition m.changes MendAck s o s') ((o ≡ nothing) × (s' ≡ s)) → Later s s'
+mend_later a m true s o s' h = same_times s s' _ h.3 refl refl refl
+mend_later a m false s o s' h = same_times s s' s h.1 refl refl refl
+
 hears_later : (c : Setting) (me : ℕ) (a : Asker) (b : Body) (s : NodeState) (o : Effects) (s' : NodeState) → HearsBody c me a b s o s' → Later s s'
 hears_later c me a (Write m) s o s' h = same_times s s' _ h.3 refl refl refl
 hears_later c me a WriteAck s o s' h = same_times s s' _ h.3 refl refl refl
 hears_later c me a (Read q) s o s' h = same_times s s' _ h.3 refl refl refl
 hears_later c me a (ReadReply content) s o s' h = same_times s s' _ h.3 refl refl refl
+hears_later c me a (Mend m) s o s' h = mend_later a m (write_fits c m) s o s' h
+hears_later c me a MendAck s o s' h = same_times s s' _ h.3 refl refl refl
 hears_later c me a (Hint number m) s o s' h = same_times s s' _ h.3 refl refl refl
 hears_later c me a (HintAck number) s o s' h = to_later s s' _ h.1 (acked_times c (is_last s a.from number) s a.from number)
 
@@ -130,11 +138,17 @@ acked_at c false s peer number = at_once s _ _ refl refl refl
 to_at : (s s' r : NodeState) → s' ≡ r → IsAtOnce s r → IsAtOnce s s'
 to_at s s' r is h = subst (λ (x : NodeState). IsAtOnce s x) (sym is) h
 
+mend_at : (a : Asker) (m : Mutation) (fits : Bool) (s : NodeState) (o : Effects) (s' : NodeState) → MatchBool fits (TakesChanges a m.partition m.changes MendAck s o s') ((o ≡ nothing) × (s' ≡ s)) → IsAtOnce s s'
+mend_at a m true s o s' h = at_once s s' _ h.3 refl refl
+mend_at a m false s o s' h = at_once s s' s h.1 refl refl
+
 body_at : (c : Setting) (me : ℕ) (a : Asker) (b : Body) (s : NodeState) (o : Effects) (s' : NodeState) → HearsBody c me a b s o s' → IsAtOnce s s'
 body_at c me a (Write m) s o s' h = at_once s s' _ h.3 refl refl
 body_at c me a WriteAck s o s' h = at_once s s' _ h.3 refl refl
 body_at c me a (Read q) s o s' h = at_once s s' _ h.3 refl refl
 body_at c me a (ReadReply content) s o s' h = at_once s s' _ h.3 refl refl
+body_at c me a (Mend m) s o s' h = mend_at a m (write_fits c m) s o s' h
+body_at c me a MendAck s o s' h = at_once s s' _ h.3 refl refl
 body_at c me a (Hint number m) s o s' h = at_once s s' _ h.3 refl refl
 body_at c me a (HintAck number) s o s' h = to_at s s' _ h.1 (acked_at c (is_last s a.from number) s a.from number)
 

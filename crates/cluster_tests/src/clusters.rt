@@ -4,11 +4,12 @@ ghost use Rattle.std.specs.Prelude.{◌≡◌, length, vec_len};
 
 use crate::plans::{read, write, write_bytes};
 use crate::site::{id, setting, store_of, store_with};
+use chronicle_pieces::Piece;
 use cluster_model::{Cluster, ClusterError, ClusterEvent};
-use cs_base::Level;
-use cs_store::MemStore;
+use cs_base::{Level, NodeId};
+use cs_store::{MemStore, Outcome};
 use list_replica::MemListReplica;
-use peer_messages::{Ask, Entries, Entry, Invalid, Plan, Refusal, Setting};
+use peer_messages::{Ask, Entry, Invalid, Plan, Refusal, Setting};
 use std::alloc::{AllocError, Global};
 use std::mem;
 use std::test::Fail;
@@ -33,8 +34,12 @@ impl Tested {
         self.cluster.step(alloc, event)
     }
 
-    fn chronicle(&self) -> &[Entries] {
+    fn chronicle(&self) -> &[Piece] {
         self.cluster.chronicle()
+    }
+
+    fn runs(&self, node: NodeId) -> bool {
+        self.cluster.runs(node)
     }
 }
 
@@ -68,7 +73,7 @@ fn lose(alloc: Global, cluster: &mut Tested, from: u8, upto: u8) -> Result<(), F
 fn acked(cluster: &Tested) -> usize {
     let mut count: usize = 0;
     for piece in cluster.chronicle() {
-        for entry in piece.as_slice() {
+        for entry in piece.own() {
             if matches!(entry, Entry::Acked(..)) {
                 count = count.saturating_add(1);
             }
@@ -81,7 +86,7 @@ fn acked(cluster: &Tested) -> usize {
 fn shown(cluster: &Tested) -> usize {
     let mut count: usize = 0;
     for piece in cluster.chronicle() {
-        for entry in piece.as_slice() {
+        for entry in piece.own() {
             if let Entry::Rows(_, rows, ..) = entry {
                 count = count.saturating_add(rows.as_slice().len());
             }
@@ -121,11 +126,24 @@ fn settles_what_is_not_lost(rt: HostRuntime) -> Result<(), Fail> {
     Ok(())
 }
 
+#[test]
+fn tells_which_nodes_run(rt: HostRuntime) -> Result<(), Fail> {
+    let alloc = rt.alloc();
+    let mut cluster = cluster_of_three(alloc)?;
+    assert!(rt; cluster.runs(id(1)?));
+    assert!(rt; !cluster.runs(id(3)?));
+    cluster.step(alloc, ClusterEvent::Crash(id(1)?, Outcome::Kept))?;
+    assert!(rt; !cluster.runs(id(1)?));
+    assert!(rt; cluster.runs(id(2)?));
+    cluster.step(alloc, ClusterEvent::Restart(id(1)?))?;
+    assert!(rt; cluster.runs(id(1)?));
+    Ok(())
+}
+
 /// How the newest request was turned away, if it was.
 fn turned(cluster: &Tested) -> Option<Refusal> {
-    let piece = cluster.chronicle().last()?;
-    match piece.as_slice().last()? {
-        Entry::Turned(_, refusal) => Some(*refusal),
+    match cluster.chronicle().last()? {
+        Piece::Turned(_, refusal) => Some(*refusal),
         _ => None,
     }
 }

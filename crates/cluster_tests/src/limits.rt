@@ -35,19 +35,29 @@ fn is_too_large(alloc: Global, step: Result<Outputs, StepError>) -> Result<bool,
     }
 }
 
+/// Whether a write of a cell of one byte would make the partition too large.
+fn refuses_a_byte(alloc: Global, node: &mut Tested) -> Result<bool, Fail> {
+    let plan = write_bytes(alloc, b"b", vec![in alloc; b'x'; 1]?, 5)?;
+    let level = Level::One;
+    let step = node.step(alloc, 0, What::Client(Ask { plan, level }));
+    Ok(is_too_large(alloc, step)?)
+}
+
+/// What is told of a write of an empty cell.
+fn told_of_no_byte(alloc: Global, node: &mut Tested) -> Result<Told, Fail> {
+    let plan = write_bytes(alloc, b"b", Vec::new(alloc), 5)?;
+    Ok(asked(alloc, node, plan))
+}
+
 // A cell is stored 37 bytes longer than its value, and a content 4 bytes longer than its cells.
 #[test]
 fn contents_are_bounded(rt: HostRuntime) -> Result<(), Fail> {
     let alloc = rt.alloc();
     let mut node = node_on(alloc, 0, store_with(alloc, (1 << 24) - 78)?)?;
-    let plan = write_bytes(alloc, b"b", vec![in alloc; b'x'; 1]?, 5)?;
-    let level = Level::One;
-    let step = node.step(alloc, 0, What::Client(Ask { plan, level }));
-    assert!(rt; is_too_large(alloc, step)?);
+    assert!(rt; refuses_a_byte(alloc, &mut node)?);
     // Nothing has happened: no time has passed, and there is room for one byte less.
     assert_eq!(rt; node.time_at(alloc, 0)?, 1);
-    let plan = write_bytes(alloc, b"b", Vec::new(alloc), 5)?;
-    assert_eq!(rt; asked(alloc, &mut node, plan), Told::Acked(1));
+    assert_eq!(rt; told_of_no_byte(alloc, &mut node)?, Told::Acked(1));
     Ok(())
 }
 

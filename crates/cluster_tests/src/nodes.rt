@@ -158,12 +158,17 @@ fn a_quorum_answers_a_read(rt: HostRuntime) -> Result<(), Fail> {
         Told::Acked(1)
     );
     assert_eq!(rt;
+        told_of_a_read(alloc, &mut second, Level::One)?,
+        Told::Shown(None)
+    );
+    assert_eq!(rt;
         told_at_a_reply(alloc, &mut first, &mut second)?,
         Told::Shown(Some(b'x'))
     );
+    // it took in what it lacked
     assert_eq!(rt;
         told_of_a_read(alloc, &mut second, Level::One)?,
-        Told::Shown(None)
+        Told::Shown(Some(b'x'))
     );
     Ok(())
 }

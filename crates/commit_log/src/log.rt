@@ -1,14 +1,15 @@
 //! The log.
 
-ghost use Rattle.std.specs.Prelude.{◌≡◌, ◌≢◌, ◌==◌, ℕ, ◌+◌, ◌^◌, ◌<◌, ◌≤◌, ◌↔◌, [], length, Err, IsOk, IfOk, OnOk, OnErr, IsErrOf};
+ghost use Rattle.std.specs.Prelude.{◌≡◌, ◌≢◌, ◌==◌, ℕ, ◌+◌, ◌^◌, ◌<◌, ◌≤◌, ◌↔◌, List, [], length, None, Err, IsOk, IfOk, OnOk, OnErr, IsErrOf};
 ghost use Rattle.std.specs.List.{AllByRecursion};
 ghost use Rattle.cs_base.specs.Faults.{HasRisen};
 ghost use Rattle.cs_store.specs.Faults.{HasCause};
 ghost use Rattle.cs_store.specs.Disk.{Stays, IsSettled, SameFiles, Passes, LeavesOnly};
+ghost use Rattle.gate_log.specs.Format.{IsFound};
 ghost use Rattle.gate_log.specs.Place.{IsAtRest, CanAppend};
 ghost use Rattle.row_change.specs.Lengths.{entry_length};
 ghost use Rattle.row_change.specs.Spelling.{EntryFits};
-ghost use Rattle.commit_log.specs.Format.{ReadsEntries, IsDamaged, Adds, IsBeforeOrAfter, ReadsAlike};
+ghost use Rattle.commit_log.specs.Format.{AreEntries, ReadsEntries, IsDamaged, Adds, IsBeforeOrAfter, ReadsAlike};
 ghost use Rattle.commit_log.specs.Place.{IsReady};
 
 use crate::words::decode_words;
@@ -79,10 +80,7 @@ impl CommitLog {
         ensures room { (k : ℕ) → S.reserved store.old k ≤ S.reserved store.new k }
     {
         let reading = Reading::of(alloc, store, f)?;
-        let entries = decode_words(alloc, &reading.entries)?;
-        if let Some(place) = reading.damage {
-            return Err(LogError::Damaged(place));
-        }
+        let entries = entries_in(alloc, &reading)?;
         let gates = GateLog::cut(alloc, store, &reading)?;
         let log = CommitLog {
             gates,
@@ -166,6 +164,24 @@ impl CommitLog {
         ensures store_room { (k : ℕ) → S.reserved store.old k ≤ S.reserved store.new k }
     {
         self.gates.append(store, &self.word)
+    }
+}
+
+/// The entries of a file that was read, unless it is damaged. The damage of an entry is told before that of a gate behind it.
+fn entries_in(alloc: Global, reading: &Reading) -> Result<LogEntries, LogError>
+    ensures whole { OnOk result (reading.now.damage ≡ None) }
+    ensures entries { IfOk result (λ entries. AreEntries reading.now.entries entries) }
+    ensures fit { IfOk result (AllByRecursion EntryFits) }
+    ensures damaged { (file : List ℕ) → IsFound reading.now.entries reading.now.damage file → (p : ℕ) → IsErrOf result (LogError.Damaged p) → IsDamaged p file }
+    ensures failed { IsErrOf result LogError.Failed → ⊥ }
+{
+    let entries = decode_words(alloc, &reading.entries)?;
+    match reading.damage {
+        Some(place) => {
+            drop(entries);
+            Err(LogError::Damaged(place))
+        }
+        None => Ok(entries),
     }
 }
 

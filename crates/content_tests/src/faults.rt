@@ -3,21 +3,31 @@
 use statement_plan::{Fault, Feature};
 use std::test::Fail;
 
-#[test]
-fn faults_are_named(rt: HostRuntime) -> Result<(), Fail> {
-    assert_eq!(rt; Fault::UnknownTable.name(), "UnknownTable");
-    assert_eq!(rt; Fault::NotSupported(Feature::Batch).name(), "NotSupported");
-    assert_eq!(rt; Fault::UnknownKeyspace.name(), "UnknownKeyspace");
-    Ok(())
-}
+const BATCH: Fault = Fault::NotSupported(Feature::Batch);
+
+const NAMES: [(Fault, &str); 3] = [
+    (Fault::UnknownTable, "UnknownTable"),
+    (BATCH, "NotSupported"),
+    (Fault::UnknownKeyspace, "UnknownKeyspace"),
+];
+
+const ORDER: Fault = Fault::NotSupported(Feature::OrderBy);
+
+/// Two faults, and that of them which is told.
+const LOWER: [(Fault, Fault, Fault); 4] = [
+    (Fault::KeyTwice, Fault::KeyMissing, Fault::KeyMissing),
+    (Fault::KeyMissing, Fault::KeyTwice, Fault::KeyMissing),
+    (BATCH, ORDER, BATCH),
+    (Fault::EmptyKey, ORDER, ORDER),
+];
 
 #[test]
-fn lower_fault_is_told(rt: HostRuntime) -> Result<(), Fail> {
-    let batch = Fault::NotSupported(Feature::Batch);
-    let order = Fault::NotSupported(Feature::OrderBy);
-    assert_eq!(rt; Fault::KeyTwice.lower(Fault::KeyMissing), Fault::KeyMissing);
-    assert_eq!(rt; Fault::KeyMissing.lower(Fault::KeyTwice), Fault::KeyMissing);
-    assert_eq!(rt; batch.lower(order), batch);
-    assert_eq!(rt; Fault::EmptyKey.lower(order), order);
+fn faults_are_named_and_the_lower_is_told(rt: HostRuntime) -> Result<(), Fail> {
+    for (fault, name) in NAMES {
+        assert!(rt; fault.name() == name, "{name}");
+    }
+    for (first, second, told) in LOWER {
+        assert!(rt; first.lower(second) == told);
+    }
     Ok(())
 }

@@ -2,18 +2,16 @@
 #![tactic(auto)]
 
 #[cfg(test)]
-mod contents;
+mod asked;
 #[cfg(test)]
-mod copies;
+mod drawn;
 #[cfg(test)]
 mod faults;
 #[cfg(test)]
-mod loaded;
+mod given;
 #[cfg(test)]
 mod log_entries;
 #[cfg(test)]
-mod orders;
-#[cfg(test)]
 mod partitions;
 #[cfg(test)]
-mod shown_rows;
+mod worked;

@@ -1,68 +1,45 @@
 //! Words and refusals worked out by hand from the format, and what is near to a word.
 
 use row_change::{
-    CodecError, decode_changes, decode_entry, decode_mutation, encode_changes, encode_entry,
-    encode_mutation,
+    CodecError, Held, LogItem, decode_changes, decode_entry, decode_mutation, encode_changes,
+    encode_entry, encode_mutation,
 };
 use std::alloc::{AllocError, Global};
 use std::test::Fail;
 
+/// A change or an item in pieces.
+type Pieces = &'static [&'static [u8]];
+
 /// What stands behind place and value: timestamp -2, submitted at 5, by node 6's request of time 9.
 const STAMP: &[u8] = b"\xff\xff\xff\xff\xff\xff\xff\xfe\0\0\0\0\0\0\0\x05\x06\0\0\0\0\0\0\0\x09";
 
-/// Tag, place and value of a change of each kind, in the order of places.
-const PLACES: [&[u8]; 8] = [
-    b"\x05",
-    b"\x04\0\0\0\0\0\x01\0\0\0\x01b",
-    b"\x04\0\0\0\0\x01a\x01\0\0\0\x02a\0",
-    b"\x03\0\0\0\x01r",
-    b"\x02\0\0\0\x01r",
-    b"\x01\0\0\0\x01r\0\x01\0\0\0\x02vw",
-    b"\x01\0\0\0\x01r\xff\0",
-    b"\x01\0\0\0\x02r\0\0\x01\0\0\0\0",
-];
+/// A change of each kind: its tag, place and value, and the stamp.
+const PART_GONE: Pieces = &[b"\x05", STAMP];
 
-/// Their places and values.
-const VALUES: [&str; 8] = [
-    "PartGone None",
-    "RangeGone(Bound { at: [], after: false }, Bound { at: [98], after: true }) None",
-    "RangeGone(Bound { at: [97], after: false }, Bound { at: [97, 0], after: true }) None",
-    "RowGone([114]) None",
-    "Marker([114]) Some([])",
-    "Cell([114], 0) Some([118, 119])",
-    "Cell([114], 255) None",
-    "Cell([114, 0], 0) Some([])",
-];
+const ROWS_GONE: Pieces = &[b"\x04\0\0\0\0\0\x01\0\0\0\x01b", STAMP];
 
-/// Bytes that are no changes, and the field that breaks them.
-const REFUSED: [(&[u8], CodecError); 18] = [
-    (b"", CodecError::Short(0)),
-    (b"\0\0\0", CodecError::Short(0)),
-    (b"\0\0\0\0\0", CodecError::Trailing(4)),
-    (b"\0\0\0\x01", CodecError::Short(4)),
-    (b"\0\0\0\x01\0", CodecError::Tag(4)),
-    (b"\0\0\0\x01\x06", CodecError::Tag(4)),
-    (b"\0\0\0\x01\x03\0\0\0", CodecError::Short(5)),
-    (b"\0\0\0\x01\x03\0\0\0\x02r", CodecError::Short(5)),
-    (b"\0\0\0\x01\x03\0\0\0\x01r", CodecError::Short(10)),
-    (b"\0\0\0\x01\x01\0\0\0\x01r\0", CodecError::Short(11)),
-    (b"\0\0\0\x01\x01\0\0\0\x01r\0\x02", CodecError::Tag(11)),
-    (
-        b"\0\0\0\x01\x01\0\0\0\x01r\0\x01\0\0\0\x01",
-        CodecError::Short(12),
-    ),
-    (b"\0\0\0\x01\x04\x02", CodecError::Tag(5)),
-    (b"\0\0\0\x01\x04\x01\0\0\0\0\x02", CodecError::Tag(10)),
-    (b"\0\0\0\x01\x05\0\0\0\0\0\0\0", CodecError::Short(5)),
-    (
-        b"\0\0\0\x01\x05\0\0\0\0\0\0\0\0\0\0\0\0\0\0\0\0\x07",
-        CodecError::Tag(21),
-    ),
-    (
-        b"\0\0\0\x01\x05\0\0\0\0\0\0\0\0\0\0\0\0\0\0\0\0\x06",
-        CodecError::Short(22),
-    ),
-    (b"\xff\xff\xff\xff\x05", CodecError::Short(5)),
+const ONE_ROW_GONE: Pieces = &[b"\x04\0\0\0\0\x01a\x01\0\0\0\x02a\0", STAMP];
+
+const ROW_GONE: Pieces = &[b"\x03\0\0\0\x01r", STAMP];
+
+const MARKER: Pieces = &[b"\x02\0\0\0\x01r", STAMP];
+
+const CELL: Pieces = &[b"\x01\0\0\0\x01r\0\x01\0\0\0\x02vw", STAMP];
+
+const CELL_GONE: Pieces = &[b"\x01\0\0\0\x01r\xff\0", STAMP];
+
+const EMPTY_CELL: Pieces = &[b"\x01\0\0\0\x02r\0\0\x01\0\0\0\0", STAMP];
+
+/// They are in the order of places.
+const CHANGES: [Pieces; 8] = [
+    PART_GONE,
+    ROWS_GONE,
+    ONE_ROW_GONE,
+    ROW_GONE,
+    MARKER,
+    CELL,
+    CELL_GONE,
+    EMPTY_CELL,
 ];
 
 /// Table 3, token -7, key k.
@@ -76,24 +53,30 @@ const BALLOTS: &[u8] =
 const STAMPED: &[u8] = b"\x01\0\0\0\0\0\0\0\x09\x01\0\0\0\0\0\0\0\x04\0\0\0\0\0\0\0\x03\0\0\0\0";
 
 /// An item of each kind.
-const ITEMS: [&[&[u8]]; 7] = [
-    &[b"\x01\0\0\0\0\0\0\0\x07", PARTITION, b"\0\0\0\0"],
-    &[b"\x02", PARTITION, BALLOTS, STAMPED, b"\0"],
-    &[
-        b"\x03\x02\0\0\0\0\0\0\0\x03\0\0\0\0\0\0\0\x04",
-        PARTITION,
-        b"\0\0\0\0",
-    ],
-    &[b"\x04\x06\0\0\0\0\0\0\x01\0"],
-    &[b"\x05\0\0\0\0\0\0\0\x09"],
-    &[
-        b"\x06\xff\xff\xff\xff\xff\xff\xff\xff\0\0\0\0\0\0\0\x01\0\0\0\0\0\0\0\x02\0\0\0\0\0\0\0\x03",
-    ],
-    &[b"\x07", PARTITION, b"\x03\0\0\0\x01r", STAMP],
+const DATA: Pieces = &[b"\x01\0\0\0\0\0\0\0\x07", PARTITION, b"\0\0\0\0"];
+
+const PAXOS: Pieces = &[b"\x02", PARTITION, BALLOTS, STAMPED, b"\0"];
+
+const HINT_ADD: Pieces = &[
+    b"\x03\x02\0\0\0\0\0\0\0\x03\0\0\0\0\0\0\0\x04",
+    PARTITION,
+    b"\0\0\0\0",
 ];
 
+const HINT_GONE: Pieces = &[b"\x04\x06\0\0\0\0\0\0\x01\0"];
+
+const CEILING: Pieces = &[b"\x05\0\0\0\0\0\0\0\x09"];
+
+const MARK: Pieces = &[
+    b"\x06\xff\xff\xff\xff\xff\xff\xff\xff\0\0\0\0\0\0\0\x01\0\0\0\0\0\0\0\x02\0\0\0\0\0\0\0\x03",
+];
+
+const PURGE: Pieces = &[b"\x07", PARTITION, b"\x03\0\0\0\x01r", STAMP];
+
+const ITEMS: [Pieces; 7] = [DATA, PAXOS, HINT_ADD, HINT_GONE, CEILING, MARK, PURGE];
+
 /// Others: two of the first kind, changes in two of them, and a commit in place of an accepted update.
-const OTHERS: [&[&[u8]]; 8] = [
+const OTHERS: [Pieces; 8] = [
     &[
         b"\x01\0\0\0\0\0\0\0\x07",
         PARTITION,
@@ -102,7 +85,7 @@ const OTHERS: [&[&[u8]]; 8] = [
         b"\x03\0\0\0\x01r",
         STAMP,
     ],
-    &[b"\x01\0\0\0\0\0\0\0\x07", PARTITION, b"\0\0\0\0"],
+    DATA,
     &[b"\x02", PARTITION, BALLOTS, b"\0", STAMPED],
     &[
         b"\x03\x02\0\0\0\0\0\0\0\x03\0\0\0\0\0\0\0\x04",
@@ -111,15 +94,59 @@ const OTHERS: [&[&[u8]]; 8] = [
         STAMP,
     ],
     &[b"\x04\0\0\0\0\0\0\0\x01\0"],
-    &[b"\x05\0\0\0\0\0\0\0\x09"],
-    &[
-        b"\x06\xff\xff\xff\xff\xff\xff\xff\xff\0\0\0\0\0\0\0\x01\0\0\0\0\0\0\0\x02\0\0\0\0\0\0\0\x03",
-    ],
+    CEILING,
+    MARK,
     &[b"\x07", PARTITION, b"\x04\0\0\0\0\0\x01\0\0\0\x01b", STAMP],
 ];
 
+/// What bytes are the word of, or are asked to be.
+enum Kind {
+    Changes,
+    Mutation,
+    Entry,
+    /// An entry of which everything near is asked.
+    Near,
+}
+
+/// Changes or items, and bytes behind them.
+const WORDS: [(Kind, &[Pieces], &[u8]); 22] = [
+    (Kind::Changes, &[PART_GONE], b""),
+    (Kind::Changes, &[ROWS_GONE], b""),
+    (Kind::Changes, &[ONE_ROW_GONE], b""),
+    (Kind::Changes, &[ROW_GONE], b""),
+    (Kind::Changes, &[MARKER], b""),
+    (Kind::Changes, &[CELL], b""),
+    (Kind::Changes, &[CELL_GONE], b""),
+    (Kind::Changes, &[EMPTY_CELL], b""),
+    (Kind::Changes, &CHANGES, b""),
+    (Kind::Mutation, &CHANGES, b""),
+    (Kind::Mutation, &CHANGES, b"\0"),
+    (Kind::Entry, &[DATA], b""),
+    (Kind::Entry, &[PAXOS], b""),
+    (Kind::Entry, &[HINT_ADD], b""),
+    (Kind::Entry, &[HINT_GONE], b""),
+    (Kind::Entry, &[CEILING], b""),
+    (Kind::Entry, &[MARK], b""),
+    (Kind::Entry, &[PURGE], b""),
+    (Kind::Entry, &ITEMS, b""),
+    (Kind::Entry, &OTHERS, b""),
+    (Kind::Near, &ITEMS, b""),
+    (Kind::Near, &OTHERS, b""),
+];
+
 /// What they are.
-const MEANINGS: [&str; 7] = [
+const MEANINGS: [&str; 22] = [
+    "PartGone None",
+    "RangeGone(Bound { at: [], after: false }, Bound { at: [98], after: true }) None",
+    "RangeGone(Bound { at: [97], after: false }, Bound { at: [97, 0], after: true }) None",
+    "RowGone([114]) None",
+    "Marker([114]) Some([])",
+    "Cell([114], 0) Some([118, 119])",
+    "Cell([114], 255) None",
+    "Cell([114, 0], 0) Some([])",
+    "8 changes",
+    "Partition { token: -7, table: 3, key: [107] } 8 changes",
+    "Trailing(293)",
     "Data(Micros { micros: 7 }, Mutation { partition: Partition { token: -7, table: 3, key: [107] }, changes: Items { items: [] } })",
     "Paxos(Partition { token: -7, table: 3, key: [107] }, PaxosRow { promised: Ballot { number: 16 }, took: [Ballot { number: 8 }, Ballot { number: 9 }, Ballot { number: 0 }, Ballot { number: 11 }, Ballot { number: 0 }, Ballot { number: 0 }, Ballot { number: 262 }], accepted: Some(Stamped { ballot: Ballot { number: 9 }, update: Update { request: ReqId { node: NodeId { number: 1 }, time: Micros { micros: 4 } }, base: Ballot { number: 3 }, changes: Items { items: [] } } }), commit: None })",
     "HintAdd(Hint { peer: NodeId { number: 2 }, number: 3, born: Micros { micros: 4 }, mutation: Mutation { partition: Partition { token: -7, table: 3, key: [107] }, changes: Items { items: [] } } })",
@@ -127,27 +154,68 @@ const MEANINGS: [&str; 7] = [
     "Ceiling(Micros { micros: 9 })",
     "Mark(Mark { range: Range { after: -1, upto: 1 }, snapshot: Micros { micros: 2 }, sent: Micros { micros: 3 } })",
     "Purge(Change { partition: Partition { token: -7, table: 3, key: [107] }, held: Held { place: RowGone([114]), value: None, timestamp: -2, submitted: Micros { micros: 5 }, request: ReqId { node: NodeId { number: 6 }, time: Micros { micros: 9 } } } })",
+    "7 items",
+    "8 items",
+    "sound",
+    "sound",
 ];
 
-/// Bytes that are no entry, and the field that breaks them.
-const REFUSED_ENTRIES: [(&[u8], CodecError); 9] = [
-    (b"\0\0\0\x01", CodecError::Short(4)),
-    (b"\0\0\0\x01\0", CodecError::Tag(4)),
-    (b"\0\0\0\x01\x08", CodecError::Tag(4)),
-    (b"\0\0\0\x01\x04\x07", CodecError::Tag(5)),
-    (b"\0\0\0\x01\x04\x06\0\0", CodecError::Short(6)),
+/// Bytes that are no changes or no entry, and the field that breaks them.
+const REFUSED: [(Kind, &[u8], &str); 27] = [
+    (Kind::Changes, b"", "Short(0)"),
+    (Kind::Changes, b"\0\0\0", "Short(0)"),
+    (Kind::Changes, b"\0\0\0\0\0", "Trailing(4)"),
+    (Kind::Changes, b"\0\0\0\x01", "Short(4)"),
+    (Kind::Changes, b"\0\0\0\x01\0", "Tag(4)"),
+    (Kind::Changes, b"\0\0\0\x01\x06", "Tag(4)"),
+    (Kind::Changes, b"\0\0\0\x01\x03\0\0\0", "Short(5)"),
+    (Kind::Changes, b"\0\0\0\x01\x03\0\0\0\x02r", "Short(5)"),
+    (Kind::Changes, b"\0\0\0\x01\x03\0\0\0\x01r", "Short(10)"),
+    (Kind::Changes, b"\0\0\0\x01\x01\0\0\0\x01r\0", "Short(11)"),
+    (Kind::Changes, b"\0\0\0\x01\x01\0\0\0\x01r\0\x02", "Tag(11)"),
     (
+        Kind::Changes,
+        b"\0\0\0\x01\x01\0\0\0\x01r\0\x01\0\0\0\x01",
+        "Short(12)",
+    ),
+    (Kind::Changes, b"\0\0\0\x01\x04\x02", "Tag(5)"),
+    (Kind::Changes, b"\0\0\0\x01\x04\x01\0\0\0\0\x02", "Tag(10)"),
+    (Kind::Changes, b"\0\0\0\x01\x05\0\0\0\0\0\0\0", "Short(5)"),
+    (
+        Kind::Changes,
+        b"\0\0\0\x01\x05\0\0\0\0\0\0\0\0\0\0\0\0\0\0\0\0\x07",
+        "Tag(21)",
+    ),
+    (
+        Kind::Changes,
+        b"\0\0\0\x01\x05\0\0\0\0\0\0\0\0\0\0\0\0\0\0\0\0\x06",
+        "Short(22)",
+    ),
+    (Kind::Changes, b"\xff\xff\xff\xff\x05", "Short(5)"),
+    (Kind::Entry, b"\0\0\0\x01", "Short(4)"),
+    (Kind::Entry, b"\0\0\0\x01\0", "Tag(4)"),
+    (Kind::Entry, b"\0\0\0\x01\x08", "Tag(4)"),
+    (Kind::Entry, b"\0\0\0\x01\x04\x07", "Tag(5)"),
+    (Kind::Entry, b"\0\0\0\x01\x04\x06\0\0", "Short(6)"),
+    (
+        Kind::Entry,
         b"\0\0\0\x02\x05\0\0\0\0\0\0\0\x09\x04",
-        CodecError::Order(13),
+        "Order(13)",
     ),
-    (b"\0\0\0\x02\x05\0\0\0\0\0\0\0\x09\0", CodecError::Tag(13)),
     (
+        Kind::Entry,
+        b"\0\0\0\x02\x05\0\0\0\0\0\0\0\x09\0",
+        "Tag(13)",
+    ),
+    (
+        Kind::Entry,
         b"\0\0\0\x02\x05\0\0\0\0\0\0\0\x09\x05",
-        CodecError::Short(14),
+        "Short(14)",
     ),
     (
+        Kind::Entry,
         b"\0\0\0\x01\x05\0\0\0\0\0\0\0\x09\x05",
-        CodecError::Trailing(13),
+        "Trailing(13)",
     ),
 ];
 
@@ -158,131 +226,76 @@ fn append(bytes: &mut Vec<u8>, pieces: &[&[u8]]) -> Result<(), AllocError> {
     Ok(())
 }
 
-/// A count of so many, and the changes with these tags, places and values.
-fn changes(alloc: Global, places: &[&[u8]]) -> Result<Vec<u8>, AllocError> {
+/// The partition of a mutation, a count of so many, these changes or items, and what stands behind them.
+fn word(alloc: Global, kind: &Kind, items: &[Pieces], end: &[u8]) -> Result<Vec<u8>, AllocError> {
     let mut bytes = Vec::new(alloc);
-    bytes.extend_from_slice(&[0, 0, 0, (places.len() % 256) as u8])?;
-    for place in places {
-        append(&mut bytes, &[place, STAMP])?;
+    if matches!(kind, Kind::Mutation) {
+        bytes.extend_from_slice(PARTITION)?;
     }
-    Ok(bytes)
-}
-
-/// A count of so many, and these items.
-fn entry(alloc: Global, items: &[&[&[u8]]]) -> Result<Vec<u8>, AllocError> {
-    let mut bytes = Vec::new(alloc);
     bytes.extend_from_slice(&[0, 0, 0, (items.len() % 256) as u8])?;
     for item in items {
         append(&mut bytes, item)?;
     }
+    bytes.extend_from_slice(end)?;
     Ok(bytes)
 }
 
-/// The place and value of the one change of which the bytes are the word, or why they are none.
-fn one_change(alloc: Global, bytes: &[u8]) -> Result<String, Fail> {
-    let changes = decode_changes(alloc, bytes)?;
-    match changes.as_slice() {
-        [change] => Ok(format!(in alloc; "{:?} {:?}", change.place, change.value)?),
-        _ => Err(Fail::from("one change")),
+/// The place and value of a change alone, or the number of changes.
+fn changes_told(alloc: Global, changes: &[Held]) -> Result<String, AllocError> {
+    match changes {
+        [change] => format!(in alloc; "{:?} {:?}", change.place, change.value),
+        several => format!(in alloc; "{} changes", several.len()),
     }
 }
 
-fn is_written_again(alloc: Global, bytes: &[u8]) -> Result<bool, CodecError> {
-    let changes = decode_changes(alloc, bytes)?;
-    match encode_changes(alloc, &changes) {
-        Ok(again) => Ok(again.as_slice() == bytes),
-        Err(_) => Err(CodecError::NoMemory),
+/// An item alone, or the number of items.
+fn items_told(alloc: Global, items: &[LogItem]) -> Result<String, AllocError> {
+    match items {
+        [item] => format!(in alloc; "{item:?}"),
+        several => format!(in alloc; "{} items", several.len()),
     }
 }
 
-#[test]
-fn changes_have_these_words(rt: HostRuntime) -> Result<(), Fail> {
-    for (place, value) in PLACES.iter().zip(VALUES) {
-        let bytes = changes(rt.alloc(), &[place])?;
-        assert_eq!(rt; one_change(rt.alloc(), &bytes)?.as_str(), value);
-        assert!(rt; is_written_again(rt.alloc(), &bytes)?);
-    }
-    assert!(rt; is_written_again(rt.alloc(), &changes(rt.alloc(), &PLACES)?)?);
-    Ok(())
-}
-
-#[test]
-fn changes_are_refused_where_they_break(rt: HostRuntime) -> Result<(), Fail> {
-    for (bytes, error) in REFUSED {
-        assert_eq!(rt; decode_changes(rt.alloc(), bytes).err(), Some(error));
-    }
-    Ok(())
-}
-
-#[test]
-fn changes_are_in_order(rt: HostRuntime) -> Result<(), Fail> {
-    for (i, place) in PLACES.iter().enumerate() {
-        for before in PLACES.iter().skip(i) {
-            let mut bytes = changes(rt.alloc(), &[before, place])?;
-            let at = before.len().wrapping_add(STAMP.len()).wrapping_add(4);
-            assert_eq!(rt;
-                decode_changes(rt.alloc(), &bytes).err(),
-                Some(CodecError::Order(at))
-            );
-            bytes.truncate(at.wrapping_add(place.len()));
-            assert_eq!(rt;
-                decode_changes(rt.alloc(), &bytes).err(),
-                Some(CodecError::Order(at))
-            );
-        }
-    }
-    Ok(())
-}
-
-#[test]
-fn mutations_have_their_partition_first(rt: HostRuntime) -> Result<(), Fail> {
-    let mut bytes = Vec::new(rt.alloc());
-    let changes = changes(rt.alloc(), &PLACES)?;
-    bytes.extend_from_slice(PARTITION)?;
-    bytes.extend_from_slice(&changes)?;
-    let mutation = decode_mutation(rt.alloc(), &bytes)?;
-    let partition = format!(in rt.alloc(); "{:?}", mutation.partition)?;
-    assert_eq!(rt;
-        partition.as_str(),
-        "Partition { token: -7, table: 3, key: [107] }"
-    );
-    assert_eq!(rt;
-        encode_mutation(rt.alloc(), &mutation)?.as_slice(),
-        bytes.as_slice()
-    );
-    let end = bytes.len();
-    bytes.push(0)?;
-    assert_eq!(rt;
-        decode_mutation(rt.alloc(), &bytes).err(),
-        Some(CodecError::Trailing(end))
-    );
-    Ok(())
-}
-
-/// The one item of the entry of which the bytes are the word, or why they are none.
-fn one_item(alloc: Global, bytes: &[u8]) -> Result<String, Fail> {
-    let entry = decode_entry(alloc, bytes)?;
-    match entry.items.as_slice() {
-        [item] => Ok(format!(in alloc; "{item:?}")?),
-        _ => Err(Fail::from("one item")),
+/// Why bytes are no word, or that they are another one than is written for what they are read as.
+fn refusal(alloc: Global, error: Option<CodecError>) -> Result<String, AllocError> {
+    match error {
+        Some(error) => format!(in alloc; "{error:?}"),
+        None => String::from_str(alloc, "another word"),
     }
 }
 
-#[test]
-fn items_have_these_words(rt: HostRuntime) -> Result<(), Fail> {
-    for (item, meaning) in ITEMS.iter().zip(MEANINGS) {
-        let bytes = entry(rt.alloc(), &[item])?;
-        assert_eq!(rt; one_item(rt.alloc(), &bytes)?.as_str(), meaning);
+fn told_changes(alloc: Global, bytes: &[u8]) -> Result<String, AllocError> {
+    match decode_changes(alloc, bytes) {
+        Ok(changes) => if encode_changes(alloc, &changes)?.as_slice() == bytes {
+            changes_told(alloc, changes.as_slice())
+        } else {
+            refusal(alloc, None)
+        },
+        Err(error) => refusal(alloc, Some(error)),
     }
-    Ok(())
 }
 
-#[test]
-fn entries_are_refused_where_they_break(rt: HostRuntime) -> Result<(), Fail> {
-    for (bytes, error) in REFUSED_ENTRIES {
-        assert_eq!(rt; decode_entry(rt.alloc(), bytes).err(), Some(error));
+fn told_mutation(alloc: Global, bytes: &[u8]) -> Result<String, AllocError> {
+    match decode_mutation(alloc, bytes) {
+        Ok(mutation) => if encode_mutation(alloc, &mutation)?.as_slice() == bytes {
+            let count = mutation.changes.as_slice().len();
+            format!(in alloc; "{:?} {count} changes", mutation.partition)
+        } else {
+            refusal(alloc, None)
+        },
+        Err(error) => refusal(alloc, Some(error)),
     }
-    Ok(())
+}
+
+fn told_entry(alloc: Global, bytes: &[u8]) -> Result<String, AllocError> {
+    match decode_entry(alloc, bytes) {
+        Ok(entry) => if encode_entry(alloc, &entry)?.as_slice() == bytes {
+            items_told(alloc, entry.items.as_slice())
+        } else {
+            refusal(alloc, None)
+        },
+        Err(error) => refusal(alloc, Some(error)),
+    }
 }
 
 /// Whether the bytes are refused, or are an entry's word and written again as they are.
@@ -326,18 +339,58 @@ fn changed_bytes_are_sound(alloc: Global, bytes: &mut [u8]) -> Result<bool, Allo
     Ok(true)
 }
 
-fn is_sound_all_round(alloc: Global, mut bytes: Vec<u8>) -> Result<bool, AllocError> {
-    if decode_entry(alloc, &bytes).is_err() || !is_sound(alloc, &bytes)? {
-        return Ok(false);
+fn told_near(alloc: Global, bytes: &[u8]) -> Result<String, AllocError> {
+    let mut changed = Vec::from_slice(alloc, bytes)?;
+    let is_sound = fronts_are_short(alloc, bytes)
+        && changed_bytes_are_sound(alloc, changed.as_mut_slice())?;
+    String::from_str(alloc, if is_sound { "sound" } else { "unsound" })
+}
+
+/// What the bytes are the word of, or why they are none.
+fn told(alloc: Global, kind: &Kind, bytes: &[u8]) -> Result<String, AllocError> {
+    match kind {
+        Kind::Changes => told_changes(alloc, bytes),
+        Kind::Mutation => told_mutation(alloc, bytes),
+        Kind::Entry => told_entry(alloc, bytes),
+        Kind::Near => told_near(alloc, bytes),
     }
-    Ok(fronts_are_short(alloc, &bytes) && changed_bytes_are_sound(alloc, bytes.as_mut_slice())?)
 }
 
 #[test]
-fn what_is_near_an_entry_is_refused_or_another(rt: HostRuntime) -> Result<(), Fail> {
-    let first = entry(rt.alloc(), &ITEMS)?;
-    assert!(rt; is_sound_all_round(rt.alloc(), first)?);
-    let second = entry(rt.alloc(), &OTHERS)?;
-    assert!(rt; is_sound_all_round(rt.alloc(), second)?);
+fn words_are_of_these_and_others_are_refused(rt: HostRuntime) -> Result<(), Fail> {
+    for ((kind, items, end), meaning) in WORDS.iter().zip(MEANINGS) {
+        let bytes = word(rt.alloc(), kind, items, end)?;
+        assert_eq!(rt; told(rt.alloc(), kind, &bytes)?.as_str(), meaning);
+    }
+    for (kind, bytes, error) in &REFUSED {
+        assert_eq!(rt; told(rt.alloc(), kind, bytes)?.as_str(), *error);
+    }
+    Ok(())
+}
+
+/// Whether the bytes are refused since the change whose tag stands here is out of order.
+fn is_out_of_order(alloc: Global, bytes: &[u8], at: usize) -> bool {
+    match decode_changes(alloc, bytes) {
+        Err(CodecError::Order(place)) => place == at,
+        _ => false,
+    }
+}
+
+/// Whether a change is refused behind another one, as soon as its place and value are there.
+fn is_refused_behind(alloc: Global, before: Pieces, change: Pieces) -> Result<bool, AllocError> {
+    let at = word(alloc, &Kind::Changes, &[before], b"")?.len();
+    let mut bytes = word(alloc, &Kind::Changes, &[before, change], b"")?;
+    let is_refused = is_out_of_order(alloc, &bytes, at);
+    bytes.truncate(bytes.len().saturating_sub(STAMP.len()));
+    Ok(is_refused && is_out_of_order(alloc, &bytes, at))
+}
+
+#[test]
+fn changes_are_in_order(rt: HostRuntime) -> Result<(), Fail> {
+    for (i, change) in CHANGES.iter().enumerate() {
+        for before in CHANGES.iter().skip(i) {
+            assert!(rt; is_refused_behind(rt.alloc(), before, change)?);
+        }
+    }
     Ok(())
 }

@@ -1,178 +1,173 @@
-//! What is kept of a partition beside a plain list of changes, each of which is compared with all others.
+//! What is kept of a partition, beside a plain list of changes, each of which is compared with all others; and what a load makes
+//! of one.
 
-use cell_merge::Content;
-use changes::{Bound, Held, Place, encoded_length, in_order};
-use cs_base::{Bytes, Micros, NodeId, ReqId};
-use partition_content::{Arrived, PartitionContent};
+use crate::drawn::{Manner, drawn_changes};
+use crate::given::{changes, content, place};
+use cell_merge::{Content, PlainContent};
+use changes::{Bound, Held, Place, are_in_order, encoded_length};
+use cs_base::Micros;
+use partition_content::{Arrived, LoadedContent, PartitionContent};
 use std::alloc::{AllocError, Global};
+use std::fmt::Write;
 use std::test::Fail;
 
-/// Names of rows, of which some begin with others.
-const ROWS: [&str; 6] = ["", "a", "ab", "b", "ba", "c"];
+/// Puts changes in at a time. Whether the length is then what was told before.
+fn take_in(kept: &mut PartitionContent, incoming: Content, time: u64) -> Result<bool, AllocError> {
+    kept.reserve(&incoming)?;
+    let told = kept.length_with(&incoming);
+    kept.apply(incoming, Micros::new(time));
+    Ok(told == kept.encoded_length())
+}
 
-/// The next of some numbers below a limit.
-fn next(seed: &mut u32, limit: u32) -> u32 {
-    *seed = seed.wrapping_mul(1664525).wrapping_add(1013904223);
-    if limit == 0 {
-        return 0;
+/// What is kept of changes that come line by line, one line at a time.
+pub fn kept_of(alloc: Global, lines: &str) -> Result<PartitionContent, AllocError> {
+    let mut kept = PartitionContent::new(alloc);
+    for (time, words) in lines.lines().enumerate() {
+        let _is_told = take_in(&mut kept, content(alloc, words)?, time as u64)?;
     }
-    (*seed >> 16) % limit
+    Ok(kept)
 }
 
-fn row(alloc: Global, seed: &mut u32) -> Result<Bytes, AllocError> {
-    let at = next(seed, 6) as usize;
-    let name = ROWS.get(at).copied().unwrap_or("z");
-    Bytes::from_slice(alloc, name.as_bytes())
-}
-
-fn bound(alloc: Global, seed: &mut u32) -> Result<Bound, AllocError> {
-    Ok(Bound {
-        at: row(alloc, seed)?,
-        after: next(seed, 2) == 1,
-    })
-}
-
-/// A place of any kind, mostly a cell.
-fn place(alloc: Global, seed: &mut u32) -> Result<Place, AllocError> {
-    Ok(match next(seed, 40) {
-        0 => Place::PartGone,
-        1..=9 => Place::RangeGone(bound(alloc, seed)?, bound(alloc, seed)?),
-        10..=14 => Place::RowGone(row(alloc, seed)?),
-        15..=18 => Place::Marker(row(alloc, seed)?),
-        _ => Place::Cell(row(alloc, seed)?, (next(seed, 3) % 3) as u8),
-    })
-}
-
-/// The value that a place may have: a cell has one or is deleted.
-fn value(alloc: Global, place: &Place, seed: &mut u32) -> Result<Option<Bytes>, AllocError> {
-    match place {
-        Place::Cell(_, _) => match next(seed, 3) {
-            0 => Ok(None),
-            1 => Ok(Some(Bytes::from_slice(alloc, b"v")?)),
-            _ => Ok(Some(Bytes::from_slice(alloc, b"value")?)),
-        },
-        Place::Marker(_) => Ok(Some(Bytes::new(alloc))),
-        _ => Ok(None),
+/// When what stands at a place came.
+pub fn arrival(alloc: Global, kept: &PartitionContent, at: &str) -> Result<String, AllocError> {
+    match kept.get(place(alloc, at)?) {
+        Some(there) => format!(in alloc; "{}", there.copy(alloc)?.arrival.count()),
+        None => String::from_str(alloc, "never"),
     }
 }
 
-fn change(alloc: Global, seed: &mut u32) -> Result<Held, AllocError> {
-    let place = place(alloc, seed)?;
-    let value = value(alloc, &place, seed)?;
-    let timestamp = i64::from(next(seed, 8));
-    Ok(Held {
-        place,
-        value,
-        timestamp,
-        submitted: Micros::new(1),
-        request: ReqId {
-            node: NodeId::FIRST,
-            time: Micros::new(1),
-        },
-    })
-}
-
-/// The content of some changes.
-fn content_of(alloc: Global, seed: &mut u32) -> Result<Content, AllocError> {
-    let mut changes = Vec::new(alloc);
-    for _ in 0..4 {
-        changes.push(change(alloc, seed)?)?;
+/// The words of cells of so many rows, one on a line.
+fn many_rows(alloc: Global, count: u32) -> Result<String, AllocError> {
+    let mut lines = String::new(alloc);
+    for row in 0..count {
+        writeln!(lines, "0{row:05}")?;
     }
-    Content::from_changes(alloc, changes)
+    Ok(lines)
 }
 
-/// What stays of both lists when each change is compared with all of the other.
-fn plain_merge(alloc: Global, kept: &[Held], incoming: &[Held]) -> Result<Vec<Held>, AllocError> {
-    let mut merged = Vec::new(alloc);
-    for held in kept {
-        if !incoming.iter().any(|x| x.outranks(held)) {
-            merged.push(held.copy(alloc)?)?;
+/// A `1` for each of some rows that is there, and a `0` for each other one.
+fn rows_there(alloc: Global, kept: &PartitionContent) -> Result<String, AllocError> {
+    let mut signs = String::new(alloc);
+    for row in 4_999..5_011 {
+        let at = format!(in alloc; "0{row:05}")?;
+        let is_there = kept.get(place(alloc, &at)?).is_some();
+        signs.push(if is_there { '1' } else { '0' })?;
+    }
+    Ok(signs)
+}
+
+/// Whether the length was told when few of many rows were deleted, the number of keys and the length then, and the rows.
+pub fn few_of_many(alloc: Global, gone: &str) -> Result<String, AllocError> {
+    let mut kept = kept_of(alloc, &many_rows(alloc, 10_000)?)?;
+    let is_told = take_in(&mut kept, content(alloc, gone)?, 10_000)?;
+    let rows = rows_there(alloc, &kept)?;
+    let (count, length) = (kept.key_count(), kept.encoded_length());
+    format!(in alloc; "{is_told} {count} {length} {}", rows.as_str())
+}
+
+/// What a load makes of the lines, with what is loaded put back at one of them.
+fn loaded_of(alloc: Global, lines: &str, back: usize) -> Result<PartitionContent, AllocError> {
+    let mut loaded = LoadedContent::new(alloc);
+    for (at, words) in lines.lines().enumerate() {
+        if at == back {
+            loaded = LoadedContent::from_content(alloc, loaded.into_content()?);
         }
+        loaded.add(content(alloc, words)?, Micros::new(at as u64))?;
     }
-    for x in incoming {
-        if !kept.iter().any(|held| held == x || held.outranks(x)) {
-            merged.push(x.copy(alloc)?)?;
-        }
-    }
-    Ok(in_order(merged))
+    loaded.into_content()
 }
 
-/// What of a list meets two bounds.
-fn plain_slice(
+fn is_loaded_alike(
     alloc: Global,
-    kept: &[Held],
+    kept: &PartitionContent,
+    loaded: &PartitionContent,
+) -> Result<bool, AllocError> {
+    Ok(
+        loaded.encoded_length() == kept.encoded_length()
+            && loaded.stored(alloc)? == kept.stored(alloc)?,
+    )
+}
+
+/// Whether a load keeps what comes one after another, wherever what is loaded is put back.
+pub fn is_loaded(alloc: Global, lines: &str) -> Result<bool, AllocError> {
+    let kept = kept_of(alloc, lines)?;
+    let mut alike = true;
+    for back in 0..6 {
+        alike &= is_loaded_alike(alloc, &kept, &loaded_of(alloc, lines, back)?)?;
+    }
+    Ok(alike)
+}
+
+/// Whether these changes are in order and those of a plain list, which has each place once.
+fn are_those(changes: &[Held], plain: &[Held]) -> bool {
+    for held in plain {
+        if !changes.contains(held) {
+            return false;
+        }
+    }
+    changes.len() == plain.len() && are_in_order(changes)
+}
+
+/// Whether what is kept is what the plain list has, and has come of what was there by a merge.
+fn keeps_alike(
+    alloc: Global,
+    kept: &PartitionContent,
+    merged: &Content,
+    plain: &[Held],
+) -> Result<bool, AllocError> {
+    Ok(
+        kept.encoded_length() == encoded_length(plain)
+            && kept.is_empty() == plain.is_empty()
+            && kept.key_count() == plain.len()
+            && are_those(merged.as_slice(), plain)
+            && kept.whole(alloc)?.is_same(merged),
+    )
+}
+
+/// When the change came, if it is one of these.
+fn arrival_of(stored: &[Arrived], held: &Held) -> Option<Micros> {
+    for there in stored {
+        if there.held == *held {
+            return Some(there.arrival);
+        }
+    }
+    None
+}
+
+/// Whether these changes are stored now with the arrivals that they had before, and what was not there with this time.
+fn came_alike(before: &[Arrived], now: &[Arrived], whole: &[Held], time: u64) -> bool {
+    for (there, held) in now.iter().zip(whole) {
+        let came = arrival_of(before, held).unwrap_or(Micros::new(time));
+        if there.arrival != came || there.held != *held {
+            return false;
+        }
+    }
+    now.len() == whole.len()
+}
+
+/// Whether a slice has what of the whole meets its bounds.
+fn slices_alike(
+    alloc: Global,
+    kept: &PartitionContent,
+    whole: &[Held],
     from: &Bound,
     upto: &Bound,
-) -> Result<Vec<Held>, AllocError> {
-    let mut part = Vec::new(alloc);
-    for held in kept {
+) -> Result<bool, AllocError> {
+    let slice = kept.slice(alloc, from, upto)?;
+    let mut at = 0usize;
+    for held in whole {
         if held.place.meets(from, upto) {
-            part.push(held.copy(alloc)?)?;
+            if slice.as_slice().get(at) != Some(held) {
+                return Ok(false);
+            }
+            at = at.saturating_add(1);
         }
     }
-    Ok(part)
+    Ok(slice.as_slice().len() == at)
 }
 
-#[test]
-fn keeps_what_a_plain_list_keeps(rt: HostRuntime) -> Result<(), Fail> {
-    let alloc = rt.alloc();
-    for start in 0..12 {
-        let mut seed = start;
-        let mut content = PartitionContent::new(alloc);
-        let mut plain = Vec::new(alloc);
-        assert!(rt; content.is_empty());
-        for _ in 0..25 {
-            let refused = content_of(alloc, &mut seed)?;
-            content.reserve(&refused)?;
-            let incoming = content_of(alloc, &mut seed)?;
-            content.reserve(&incoming)?;
-            plain = plain_merge(alloc, &plain, incoming.as_slice())?;
-            assert_eq!(rt; content.length_with(&incoming), encoded_length(&plain));
-            content.apply(incoming, Micros::new(1));
-            let whole = content.whole(alloc)?;
-            assert_eq!(rt; whole.as_slice(), plain.as_slice());
-            assert_eq!(rt; content.encoded_length(), encoded_length(&plain));
-            assert_eq!(rt; content.is_empty(), plain.is_empty());
-            let from = bound(alloc, &mut seed)?;
-            let upto = bound(alloc, &mut seed)?;
-            let slice = content.slice(alloc, &from, &upto)?;
-            let part = plain_slice(alloc, &plain, &from, &upto)?;
-            assert_eq!(rt; slice.as_slice(), part.as_slice());
-        }
-    }
-    Ok(())
-}
-
-/// What stays of a list, and what comes to it at a time.
-fn plain_arrivals(
-    alloc: Global,
-    kept: &[Arrived],
-    incoming: &[Held],
-    at: Micros,
-) -> Result<Vec<Arrived>, AllocError> {
-    let mut now = Vec::new(alloc);
-    for there in kept {
-        if !incoming.iter().any(|x| x.outranks(&there.held)) {
-            now.push(there.copy(alloc)?)?;
-        }
-    }
-    for x in incoming {
-        if !kept
-            .iter()
-            .any(|there| there.held == *x || there.held.outranks(x))
-        {
-            now.push(Arrived {
-                held: x.copy(alloc)?,
-                arrival: at,
-            })?;
-        }
-    }
-    Ok(now)
-}
-
-/// What a list has at a place.
-fn plain_at<'a>(kept: &'a [Arrived], place: &Place) -> Option<&'a Arrived> {
-    for there in kept {
+fn stored_at<'a>(stored: &'a [Arrived], place: &Place) -> Option<&'a Arrived> {
+    for there in stored {
         if there.held.place == *place {
             return Some(there);
         }
@@ -180,193 +175,77 @@ fn plain_at<'a>(kept: &'a [Arrived], place: &Place) -> Option<&'a Arrived> {
     None
 }
 
-#[test]
-fn keeps_the_arrivals_that_a_plain_list_keeps(rt: HostRuntime) -> Result<(), Fail> {
-    let alloc = rt.alloc();
-    for start in 0..12 {
-        let mut seed = start;
-        let mut content = PartitionContent::new(alloc);
-        let mut plain = Vec::new(alloc);
-        for time in 0..25 {
-            let at = Micros::new(time);
-            let incoming = content_of(alloc, &mut seed)?;
-            content.reserve(&incoming)?;
-            plain = plain_arrivals(alloc, &plain, incoming.as_slice(), at)?;
-            content.apply(incoming, at);
-            let stored = content.stored(alloc)?;
-            assert_eq!(rt; stored.len(), plain.len());
-            for there in &stored {
-                assert_eq!(rt; Some(there), plain_at(&plain, &there.held.place));
-            }
-            let place = place(alloc, &mut seed)?;
-            let there = plain_at(&plain, &place);
-            assert_eq!(rt; content.get(place.copy(alloc)?), there);
-        }
-    }
-    Ok(())
-}
-
-/// Puts in one change of row "a" at a time, and tells when what then stands in its first column came.
-fn arrival_after(
+/// Whether what stands at the places of some changes is what is stored there, and what meets the bounds of those that have some
+/// is that of the whole.
+fn reads_alike(
     alloc: Global,
-    content: &mut PartitionContent,
-    deletes_row: bool,
-    timestamp: i64,
+    kept: &PartitionContent,
+    whole: &[Held],
+    changes: &[Held],
+) -> Result<bool, AllocError> {
+    let stored = kept.stored(alloc)?;
+    let mut alike = true;
+    for Held { place, .. } in changes.iter().take(3) {
+        alike &= kept.get(place.copy(alloc)?) == stored_at(&stored, place);
+        if let Place::RangeGone(from, upto) = place {
+            alike &= slices_alike(alloc, kept, whole, from, upto)?;
+        }
+    }
+    Ok(alike)
+}
+
+/// Whether all are alike once changes come, after memory was taken for others that do not come.
+fn take_alike(
+    alloc: Global,
+    kept: &mut PartitionContent,
+    plain: &mut PlainContent,
+    refused: &Content,
+    words: &str,
     time: u64,
-) -> Result<Option<u64>, AllocError> {
-    let row = Bytes::from_slice(alloc, b"a")?;
-    let cell = Place::Cell(row.copy(alloc)?, 1);
-    let place = if deletes_row {
-        Place::RowGone(row)
-    } else {
-        cell.copy(alloc)?
-    };
-    let mut changes = Vec::new(alloc);
-    changes.push(Held {
-        place,
-        value: None,
-        timestamp,
-        submitted: Micros::new(1),
-        request: ReqId {
-            node: NodeId::FIRST,
-            time: Micros::new(1),
-        },
-    })?;
-    let incoming = Content::from_changes(alloc, changes)?;
-    content.reserve(&incoming)?;
-    content.apply(incoming, Micros::new(time));
-    Ok(content.get(cell).map(|there| there.arrival.count()))
+) -> Result<bool, AllocError> {
+    kept.reserve(refused)?;
+    let before = kept.stored(alloc)?;
+    let incoming = content(alloc, words)?;
+    let merged = kept.whole(alloc)?.merge(alloc, incoming.copy(alloc)?)?;
+    let is_told = take_in(kept, incoming, time)?;
+    plain.apply(changes(alloc, words)?)?;
+    let whole = merged.as_slice();
+    Ok(
+        is_told
+            && keeps_alike(alloc, kept, &merged, plain.as_slice())?
+            && came_alike(&before, &kept.stored(alloc)?, whole, time)
+            && reads_alike(alloc, kept, whole, refused.as_slice())?,
+    )
 }
+
+/// Whether nothing is there at first, and all are alike after each turn.
+fn go_on_alike(alloc: Global, manner: Manner, turns: u64, start: u64) -> Result<bool, AllocError> {
+    let mut seed = start;
+    let mut kept = PartitionContent::new(alloc);
+    let mut plain = PlainContent::new(alloc);
+    let mut alike = kept.is_empty();
+    for time in 0..turns {
+        let refused = content(alloc, &drawn_changes(alloc, &mut seed, manner, time)?)?;
+        let words = drawn_changes(alloc, &mut seed, manner, time)?;
+        alike &= take_alike(alloc, &mut kept, &mut plain, &refused, &words, time)?;
+    }
+    Ok(alike)
+}
+
+/// How many histories there are, the turns of each, and how their changes are drawn: many at a time; few at a time, at few
+/// timestamps; and crowds of deletions of few rows, later ones mostly at later timestamps.
+const HISTORIES: [(u64, u64, Manner); 3] = [
+    (16, 6, (9, 9, 30, 40, 0)),
+    (12, 25, (9, 9, 9, 8, 0)),
+    (8, 30, (16, 6, 14, 6, 1)),
+];
 
 #[test]
-fn a_cell_keeps_its_arrival_until_another_comes(rt: HostRuntime) -> Result<(), Fail> {
-    let alloc = rt.alloc();
-    let mut content = PartitionContent::new(alloc);
-    let steps = [
-        (false, 5, 10, Some(10)),
-        (false, 5, 11, Some(10)),
-        (false, 4, 12, Some(10)),
-        (true, 4, 13, Some(10)),
-        (false, 6, 14, Some(14)),
-        (true, 6, 15, None),
-        (false, 6, 16, None),
-        (false, 7, 17, Some(17)),
-        (false, 7, 18, Some(17)),
-    ];
-    for (deletes_row, timestamp, time, arrival) in steps {
-        let now = arrival_after(alloc, &mut content, deletes_row, timestamp, time)?;
-        assert_eq!(rt; now, arrival);
-    }
-    Ok(())
-}
-
-/// A name of one of some rows, in order.
-fn numbered(alloc: Global, row: u32) -> Result<Bytes, AllocError> {
-    Bytes::from_slice(alloc, &row.to_be_bytes())
-}
-
-fn edge(alloc: Global, row: u32) -> Result<Bound, AllocError> {
-    Ok(Bound {
-        at: numbered(alloc, row)?,
-        after: row % 2 == 1,
-    })
-}
-
-/// A place among sixteen rows: a deletion of a range of a few rows, of a row or rarely of the partition, or a cell between.
-fn crowded_place(alloc: Global, seed: &mut u32) -> Result<Place, AllocError> {
-    let row = next(seed, 16);
-    Ok(match next(seed, 24) {
-        0 => Place::PartGone,
-        1..=5 => {
-            let width = next(seed, 6);
-            Place::RangeGone(edge(alloc, row)?, edge(alloc, row.saturating_add(width))?)
+fn keeps_what_a_plain_list_keeps(rt: HostRuntime) -> Result<(), Fail> {
+    for (histories, turns, manner) in HISTORIES {
+        for start in 0..histories {
+            assert!(rt; go_on_alike(rt.alloc(), manner, turns, start)?, "{start}");
         }
-        6..=9 => Place::RowGone(numbered(alloc, row)?),
-        10 => Place::Marker(numbered(alloc, row)?),
-        _ => Place::Cell(numbered(alloc, row)?, (next(seed, 3) % 3) as u8),
-    })
-}
-
-/// The content of so many changes at crowded places, later ones mostly at later timestamps.
-fn crowd(alloc: Global, seed: &mut u32, count: u32, turn: u32) -> Result<Content, AllocError> {
-    let mut changes = Vec::new(alloc);
-    for _ in 0..count {
-        let place = crowded_place(alloc, seed)?;
-        let value = value(alloc, &place, seed)?;
-        changes.push(Held {
-            place,
-            value,
-            timestamp: i64::from(turn % 1000) + i64::from(next(seed, 6)),
-            submitted: Micros::new(1),
-            request: ReqId {
-                node: NodeId::FIRST,
-                time: Micros::new(1),
-            },
-        })?;
-    }
-    Content::from_changes(alloc, changes)
-}
-
-#[test]
-fn sweeps_what_a_plain_list_sweeps(rt: HostRuntime) -> Result<(), Fail> {
-    let alloc = rt.alloc();
-    for start in 0..8 {
-        let mut seed = start;
-        let mut content = PartitionContent::new(alloc);
-        let mut plain = Vec::new(alloc);
-        for turn in 0..30 {
-            let count = next(&mut seed, 12).saturating_add(1);
-            let incoming = crowd(alloc, &mut seed, count, turn)?;
-            content.reserve(&incoming)?;
-            plain = plain_merge(alloc, &plain, incoming.as_slice())?;
-            let told = content.length_with(&incoming);
-            content.apply(incoming, Micros::new(1));
-            let whole = content.whole(alloc)?;
-            assert_eq!(rt; whole.as_slice(), plain.as_slice());
-            assert_eq!(rt; content.encoded_length(), encoded_length(&plain));
-            assert_eq!(rt; told, content.encoded_length());
-            assert_eq!(rt; content.key_count(), plain.len());
-        }
-    }
-    Ok(())
-}
-
-fn one(alloc: Global, place: Place, timestamp: i64) -> Result<Content, AllocError> {
-    let mut changes = Vec::new(alloc);
-    changes.push(Held {
-        place,
-        value: None,
-        timestamp,
-        submitted: Micros::new(1),
-        request: ReqId {
-            node: NodeId::FIRST,
-            time: Micros::new(1),
-        },
-    })?;
-    Content::from_changes(alloc, changes)
-}
-
-#[test]
-fn a_range_of_few_rows_among_many_is_deleted(rt: HostRuntime) -> Result<(), Fail> {
-    let alloc = rt.alloc();
-    let mut content = PartitionContent::new(alloc);
-    for row in 0..10_000 {
-        let incoming = one(alloc, Place::Cell(numbered(alloc, row)?, 0), 1)?;
-        content.reserve(&incoming)?;
-        content.apply(incoming, Micros::new(1));
-    }
-    let before = content.encoded_length();
-    let place = Place::RangeGone(edge(alloc, 5_000)?, edge(alloc, 5_009)?);
-    let incoming = one(alloc, place, 2)?;
-    content.reserve(&incoming)?;
-    let told = content.length_with(&incoming);
-    content.apply(incoming, Micros::new(2));
-    assert_eq!(rt; told, content.encoded_length());
-    assert_eq!(rt; content.key_count(), 9_991);
-    assert!(rt; told < before);
-    for row in 4_999..5_011 {
-        let there = content.get(Place::Cell(numbered(alloc, row)?, 0));
-        assert_eq!(rt; there.is_none(), (5_000..5_010).contains(&row));
     }
     Ok(())
 }

@@ -1,9 +1,11 @@
-//! Tests of coordinators, and of what they go by, which need only the public side of the crates.
+//! Tests of coordinators, of hints, and of what they go by, which need only the public side of the crates.
 #![tactic(auto)]
 
 #[cfg(test)]
-mod messages;
+mod given;
 #[cfg(test)]
-mod reads;
+mod hints;
 #[cfg(test)]
-mod writes;
+mod talks;
+#[cfg(test)]
+mod told;

@@ -9,6 +9,8 @@ use Rattle.cql_statement.specs.declared.statement.Statement.{Statement}
 use Rattle.cql_parser.specs.Forms.{Derives}
 use Rattle.cql_parser.specs.Grammar.{statement}
 use Rattle.cql_parser.specs.Reading.{Read, read}
+use Rattle.cql_parser.specs.declared.cursor.Halt.{Halt}
+use Rattle.cql_parser.specs.declared.cursor.Halt.TheVariants as halts
 use Rattle.cql_parser.specs.declared.error.ParseError.{ParseError}
 use Rattle.cql_parser.specs.declared.error.ParseError.TheVariants as errors
 
@@ -81,6 +83,24 @@ fault_at text stop (t ∷ ts) = errors.Unexpected t.start
 
 abbrev pub fault_of : List ℕ → Scanned → ℕ → ParseError
 fault_of text scanned left = fault_at text scanned.stop (drop (length scanned.tokens - left) scanned.tokens)
+
+-- where reading stopped
+abbrev pub halted_of : List ℕ → Scanned → Halt → ParseError
+halted_of text scanned halts.Memory = errors.NoMemory
+halted_of text scanned (halts.Left left) = fault_of text scanned left
+
+-- what refuses a statement behind which so many tokens are left
+abbrev pub end_of : List ℕ → Scanned → ℕ → Result (Unit {0}) ParseError
+end_of text scanned left =
+    if (left == 0) && is_none scanned.stop
+    then (if nat_lt most_tokens (length scanned.tokens) then Err errors.TooLong else Ok tt)
+    else Err (fault_of text scanned left)
+
+abbrev pub ended_of : List ℕ → Scanned → ℕ → Statement → Result Statement ParseError
+ended_of text scanned left s =
+    if (left == 0) && is_none scanned.stop
+    then (if nat_lt most_tokens (length scanned.tokens) then Err errors.TooLong else Ok s)
+    else Err (fault_of text scanned left)
 
 abbrev pub answer_to : List ℕ → Scanned → Read Statement → Result Statement ParseError
 answer_to text scanned (Err left) = Err (fault_of text scanned left)

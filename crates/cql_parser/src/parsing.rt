@@ -5,7 +5,7 @@ ghost use Rattle.cql_tokens.specs.Tokens.{IsScan, IsSlice};
 ghost use Rattle.cql_tokens.specs.declared.token.Token.{Token as SpecToken};
 ghost use Rattle.cql_tokens.specs.declared.token.Scanned.{Scanned as SpecScanned};
 ghost use Rattle.cql_statement.specs.declared.statement.Statement.{Statement as SpecStatement};
-ghost use Rattle.cql_parser.specs.Parsing.{Answers, IsRefused, IsStatement, IsTokens, answer_of, fault_at, most_tokens, tokens_of};
+ghost use Rattle.cql_parser.specs.Parsing.{Answers, IsRefused, IsStatement, IsTokens, answer_of, end_of, ended_of, fault_at, halted_of, most_tokens, tokens_of};
 
 use crate::cursor::{Cursor, Halt};
 use crate::error::ParseError;
@@ -32,26 +32,50 @@ fn fault(text: &str, tokens: &[Token], stop: Option<Stop>, left: usize) -> Parse
     }
 }
 
+fn halted(text: &str, scanned: &Scanned, halt: Halt) -> ParseError
+    ensures { result ≡ halted_of text.now scanned.now halt }
+{
+    match halt {
+        Halt::Memory => ParseError::NoMemory,
+        Halt::Left(left) => fault(text, scanned.tokens.as_slice(), scanned.stop, left),
+    }
+}
+
+/// What refuses a statement behind which so many tokens are left.
+fn check_end(text: &str, scanned: &Scanned, left: usize) -> Result<(), ParseError>
+    ensures { result ≡ end_of text.now scanned.now left }
+{
+    let tokens = scanned.tokens.as_slice();
+    if left > 0 || scanned.stop.is_some() {
+        return Err(fault(text, tokens, scanned.stop, left));
+    }
+    if tokens.len() > MOST_TOKENS {
+        return Err(ParseError::TooLong);
+    }
+    Ok(())
+}
+
+/// The statement behind which so many tokens are left.
+fn ended(
+    text: &str,
+    scanned: &Scanned,
+    left: usize,
+    statement: Statement,
+) -> Result<Statement, ParseError>
+    ensures { result ≡ ended_of text.now scanned.now left statement }
+{
+    check_end(text, scanned, left).and(Ok(statement))
+}
+
 /// The statement of a text with these tokens.
 fn statement_of(alloc: Global, text: &str, scanned: &Scanned) -> Result<Statement, ParseError>
     requires { All (IsSlice text.now) scanned.now.tokens }
     ensures { Answers result (answer_of text.now scanned.now) }
 {
-    let tokens = scanned.tokens.as_slice();
-    let mut cursor = Cursor::new(text, tokens);
+    let mut cursor = Cursor::new(text, scanned.tokens.as_slice());
     match statement(&mut cursor, alloc) {
-        Err(Halt::Memory) => Err(ParseError::NoMemory),
-        Err(Halt::Left(left)) => Err(fault(text, tokens, scanned.stop, left)),
-        Ok(statement) => {
-            let left = cursor.left();
-            if left > 0 || scanned.stop.is_some() {
-                return Err(fault(text, tokens, scanned.stop, left));
-            }
-            if tokens.len() > MOST_TOKENS {
-                return Err(ParseError::TooLong);
-            }
-            Ok(statement)
-        }
+        Ok(statement) => ended(text, scanned, cursor.left(), statement),
+        Err(halt) => Err(halted(text, scanned, halt)),
     }
 }
 

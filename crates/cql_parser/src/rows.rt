@@ -1,7 +1,7 @@
 //! INSERT, UPDATE, DELETE and batches of them.
 
-ghost use Rattle.std.specs.Prelude.{◌≡◌, Ok, length};
-ghost use Rattle.cql_parser.specs.Forms.{flag, optional_list, listed, many, ◌◃◌};
+ghost use Rattle.std.specs.Prelude.{◌≡◌, Ok, codes, length};
+ghost use Rattle.cql_parser.specs.Forms.{flag, option, optional_list, listed, many, word, ◌▹◌, ◌◃◌, ◌&◌};
 ghost use Rattle.cql_parser.specs.Gives.{Reads};
 ghost use Rattle.cql_parser.specs.Grammar as grammar;
 ghost use Rattle.cql_parser.specs.Reading.{read, starts, firsts};
@@ -10,10 +10,10 @@ use crate::conditions::{condition, if_not_exists, stamp};
 use crate::cursor::{Cursor, Halt};
 use crate::lists::{Part, Separator, separated};
 use crate::schema::names_in_parentheses;
-use crate::terms::{name, names, relations, table_name, term};
+use crate::terms::{name, names, relations_behind_where, table_behind, table_name, term};
 use cql_statement::{
-    Assignment, Assignments, Batch, Delete, Insert, Modification, Modifications, Names, Terms,
-    Update,
+    Assignment, Assignments, Batch, Condition, Delete, Insert, Modification, Modifications, Names,
+    Relations, Stamp, Terms, Update,
 };
 use cql_tokens::TokenKind;
 use cs_base::Items;
@@ -25,21 +25,34 @@ fn terms_in_parentheses(cursor: &mut Cursor<'_>, alloc: Global) -> Result<Terms,
 {
     cursor.symbol(TokenKind::OpenParenthesis)?;
     let terms = separated(cursor, alloc, Separator::Comma)?;
-    cursor.symbol(TokenKind::CloseParenthesis)?;
-    Ok(terms)
+    cursor.symbol(TokenKind::CloseParenthesis).and(Ok(terms))
+}
+
+/// `VALUES ( term {, term} )`.
+fn inserted_values(cursor: &mut Cursor<'_>, alloc: Global) -> Result<Terms, Halt>
+    ensures { Reads (read (word (codes "VALUES") ▹ grammar.terms_in_parentheses) cursor.old) result cursor.new }
+{
+    cursor.word("VALUES")?;
+    terms_in_parentheses(cursor, alloc)
+}
+
+/// `[IF NOT EXISTS] [USING TIMESTAMP term]`.
+fn exists_and_stamp(cursor: &mut Cursor<'_>, alloc: Global) -> Result<(bool, Option<Stamp>), Halt>
+    ensures { Reads (read (flag grammar.if_not_exists & option grammar.stamp) cursor.old) result cursor.new }
+{
+    let if_not_exists = if_not_exists(cursor)?;
+    let stamp = stamp(cursor, alloc)?;
+    Ok((if_not_exists, stamp))
 }
 
 #[tactic(auto, unfolding(crate::specs::Grammar::insert_body))]
 fn insert_body(cursor: &mut Cursor<'_>, alloc: Global) -> Result<Insert, Halt>
     ensures { Reads (read grammar.insert_body cursor.old) result cursor.new }
 {
-    cursor.word("INTO")?;
-    let table = table_name(cursor, alloc)?;
+    let table = table_behind(cursor, alloc, "INTO")?;
     let columns = names_in_parentheses(cursor, alloc)?;
-    cursor.word("VALUES")?;
-    let values = terms_in_parentheses(cursor, alloc)?;
-    let if_not_exists = if_not_exists(cursor)?;
-    let stamp = stamp(cursor, alloc)?;
+    let values = inserted_values(cursor, alloc)?;
+    let (if_not_exists, stamp) = exists_and_stamp(cursor, alloc)?;
     Ok(Insert {
         table,
         columns,
@@ -68,10 +81,24 @@ impl Part for Assignment {
     }
 }
 
+/// `SET assignment {, assignment}`.
 fn assignments(cursor: &mut Cursor<'_>, alloc: Global) -> Result<Assignments, Halt>
-    ensures { Reads (read (listed grammar.assignment) cursor.old) result cursor.new }
+    ensures { Reads (read (word (codes "SET") ▹ listed grammar.assignment) cursor.old) result cursor.new }
 {
+    cursor.word("SET")?;
     separated(cursor, alloc, Separator::Comma)
+}
+
+/// `WHERE relation {AND relation} [IF condition]`.
+fn where_and_if(
+    cursor: &mut Cursor<'_>,
+    alloc: Global,
+) -> Result<(Relations, Option<Condition>), Halt>
+    ensures { Reads (read (word (codes "WHERE") ▹ grammar.relations & option grammar.condition) cursor.old) result cursor.new }
+{
+    let relations = relations_behind_where(cursor, alloc)?;
+    let condition = condition(cursor, alloc)?;
+    Ok((relations, condition))
 }
 
 #[tactic(auto, unfolding(crate::specs::Grammar::update_body))]
@@ -80,11 +107,8 @@ fn update_body(cursor: &mut Cursor<'_>, alloc: Global) -> Result<Update, Halt>
 {
     let table = table_name(cursor, alloc)?;
     let stamp = stamp(cursor, alloc)?;
-    cursor.word("SET")?;
     let assignments = assignments(cursor, alloc)?;
-    cursor.word("WHERE")?;
-    let relations = relations(cursor, alloc)?;
-    let condition = condition(cursor, alloc)?;
+    let (relations, condition) = where_and_if(cursor, alloc)?;
     Ok(Update {
         table,
         stamp,
@@ -117,12 +141,9 @@ fn delete_body(cursor: &mut Cursor<'_>, alloc: Global) -> Result<Delete, Halt>
     ensures { Reads (read grammar.delete_body cursor.old) result cursor.new }
 {
     let columns = deleted_columns(cursor, alloc)?;
-    cursor.word("FROM")?;
-    let table = table_name(cursor, alloc)?;
+    let table = table_behind(cursor, alloc, "FROM")?;
     let stamp = stamp(cursor, alloc)?;
-    cursor.word("WHERE")?;
-    let relations = relations(cursor, alloc)?;
-    let condition = condition(cursor, alloc)?;
+    let (relations, condition) = where_and_if(cursor, alloc)?;
     Ok(Delete {
         columns,
         table,
@@ -184,6 +205,13 @@ fn modifications(cursor: &mut Cursor<'_>, alloc: Global) -> Result<Modifications
     Ok(modifications)
 }
 
+fn apply_batch(cursor: &mut Cursor<'_>) -> Result<(), Halt>
+    ensures { Reads (read (word (codes "APPLY") ▹ word (codes "BATCH")) cursor.old) result cursor.new }
+{
+    cursor.word("APPLY")?;
+    cursor.word("BATCH")
+}
+
 #[tactic(auto, unfolding(crate::specs::Grammar::batch_body))]
 fn batch_body(cursor: &mut Cursor<'_>, alloc: Global) -> Result<Batch, Halt>
     ensures { Reads (read grammar.batch_body cursor.old) result cursor.new }
@@ -192,13 +220,12 @@ fn batch_body(cursor: &mut Cursor<'_>, alloc: Global) -> Result<Batch, Halt>
     cursor.word("BATCH")?;
     let stamp = stamp(cursor, alloc)?;
     let statements = modifications(cursor, alloc)?;
-    cursor.word("APPLY")?;
-    cursor.word("BATCH")?;
-    Ok(Batch {
+    let batch = Batch {
         is_unlogged,
         stamp,
         statements,
-    })
+    };
+    apply_batch(cursor).and(Ok(batch))
 }
 
 pub(crate) fn batch(cursor: &mut Cursor<'_>, alloc: Global) -> Result<Batch, Halt>

@@ -1,7 +1,7 @@
 //! CREATE KEYSPACE, CREATE TABLE and USE.
 
-ghost use Rattle.std.specs.Prelude.{◌≡◌, Ok, length};
-ghost use Rattle.cql_parser.specs.Forms.{flag, symbol, listed};
+ghost use Rattle.std.specs.Prelude.{◌≡◌, Ok, codes, length};
+ghost use Rattle.cql_parser.specs.Forms.{flag, symbol, listed, word, ◌▹◌, ◌&◌};
 ghost use Rattle.cql_parser.specs.Gives.{Reads};
 ghost use Rattle.cql_parser.specs.Grammar as grammar;
 ghost use Rattle.cql_parser.specs.Reading.{read, prefixed, more_at};
@@ -21,11 +21,12 @@ use cql_values::{CqlType, Literal, LiteralKind};
 use cs_base::Items;
 use std::alloc::Global;
 
-/// A string or a whole number.
+/// `:` and a string or a whole number.
 #[tactic(auto, unfolding(crate::specs::Grammar::entry_value))]
 fn entry_value(cursor: &mut Cursor<'_>, alloc: Global) -> Result<Literal, Halt>
-    ensures { Reads (read grammar.entry_value cursor.old) result cursor.new }
+    ensures { Reads (read (symbol kinds.Colon ▹ grammar.entry_value) cursor.old) result cursor.new }
 {
+    cursor.symbol(TokenKind::Colon)?;
     if cursor.next_is_symbol(TokenKind::Str) {
         literal(cursor, alloc, TokenKind::Str, LiteralKind::Str)
     } else {
@@ -39,7 +40,6 @@ impl Part for ReplicationEntry {
     #[tactic(auto, unfolding(crate::specs::Grammar::entry))]
     fn read(cursor: &mut Cursor<'_>, alloc: Global) -> Result<ReplicationEntry, Halt> {
         let key = literal(cursor, alloc, TokenKind::Str, LiteralKind::Str)?;
-        cursor.symbol(TokenKind::Colon)?;
         let value = entry_value(cursor, alloc)?;
         Ok(ReplicationEntry { key, value })
     }
@@ -51,8 +51,17 @@ fn replication(cursor: &mut Cursor<'_>, alloc: Global) -> Result<Replication, Ha
 {
     cursor.symbol(TokenKind::OpenBrace)?;
     let entries = separated(cursor, alloc, Separator::Comma)?;
-    cursor.symbol(TokenKind::CloseBrace)?;
-    Ok(entries)
+    cursor.symbol(TokenKind::CloseBrace).and(Ok(entries))
+}
+
+/// `WITH REPLICATION = { entry {, entry} }`.
+fn stated_replication(cursor: &mut Cursor<'_>, alloc: Global) -> Result<Replication, Halt>
+    ensures { Reads (read (word (codes "WITH") ▹ word (codes "REPLICATION") ▹ symbol kinds.Equal ▹ grammar.replication) cursor.old) result cursor.new }
+{
+    cursor.word("WITH")?;
+    cursor.word("REPLICATION")?;
+    cursor.symbol(TokenKind::Equal)?;
+    replication(cursor, alloc)
 }
 
 /// `[AND DURABLE_WRITES = TRUE]`.
@@ -74,16 +83,13 @@ fn keyspace_body(cursor: &mut Cursor<'_>, alloc: Global) -> Result<CreateKeyspac
 {
     let if_not_exists = if_not_exists(cursor)?;
     let name = name(cursor, alloc)?;
-    cursor.word("WITH")?;
-    cursor.word("REPLICATION")?;
-    cursor.symbol(TokenKind::Equal)?;
-    let replication = replication(cursor, alloc)?;
-    durable_writes(cursor)?;
-    Ok(CreateKeyspace {
+    let replication = stated_replication(cursor, alloc)?;
+    let create = CreateKeyspace {
         if_not_exists,
         name,
         replication,
-    })
+    };
+    durable_writes(cursor).and(Ok(create))
 }
 
 #[tactic(auto, unfolding(crate::specs::Grammar::type_word))]
@@ -114,8 +120,7 @@ pub(crate) fn names_in_parentheses(cursor: &mut Cursor<'_>, alloc: Global) -> Re
 {
     cursor.symbol(TokenKind::OpenParenthesis)?;
     let names = names(cursor, alloc)?;
-    cursor.symbol(TokenKind::CloseParenthesis)?;
-    Ok(names)
+    cursor.symbol(TokenKind::CloseParenthesis).and(Ok(names))
 }
 
 #[tactic(auto, unfolding(crate::specs::Grammar::partition_key))]
@@ -152,8 +157,7 @@ impl Part for TableItem {
             cursor.word("KEY")?;
             cursor.symbol(TokenKind::OpenParenthesis)?;
             let key = key(cursor, alloc)?;
-            cursor.symbol(TokenKind::CloseParenthesis)?;
-            return Ok(key);
+            return cursor.symbol(TokenKind::CloseParenthesis).and(Ok(key));
         }
         let name = name(cursor, alloc)?;
         let ty = type_word(cursor)?;
@@ -226,8 +230,7 @@ fn clustering_order(cursor: &mut Cursor<'_>, alloc: Global) -> Result<ColumnOrde
     cursor.word("BY")?;
     cursor.symbol(TokenKind::OpenParenthesis)?;
     let orders = stated_orders(cursor, alloc)?;
-    cursor.symbol(TokenKind::CloseParenthesis)?;
-    Ok(orders)
+    cursor.symbol(TokenKind::CloseParenthesis).and(Ok(orders))
 }
 
 #[tactic(auto, unfolding(crate::specs::Grammar::option_value))]
@@ -276,8 +279,19 @@ fn table_items(cursor: &mut Cursor<'_>, alloc: Global) -> Result<TableItems, Hal
 {
     cursor.symbol(TokenKind::OpenParenthesis)?;
     let items = separated(cursor, alloc, Separator::Comma)?;
-    cursor.symbol(TokenKind::CloseParenthesis)?;
-    Ok(items)
+    cursor.symbol(TokenKind::CloseParenthesis).and(Ok(items))
+}
+
+/// `( item {, item} ) [WITH option {AND option}]`.
+fn items_and_options(
+    cursor: &mut Cursor<'_>,
+    alloc: Global,
+) -> Result<(TableItems, TableOptions), Halt>
+    ensures { Reads (read (grammar.parenthesized (listed grammar.item) & grammar.table_options) cursor.old) result cursor.new }
+{
+    let items = table_items(cursor, alloc)?;
+    let options = table_options(cursor, alloc)?;
+    Ok((items, options))
 }
 
 #[tactic(auto, unfolding(crate::specs::Grammar::table_body))]
@@ -286,8 +300,7 @@ fn table_body(cursor: &mut Cursor<'_>, alloc: Global) -> Result<CreateTable, Hal
 {
     let if_not_exists = if_not_exists(cursor)?;
     let table = table_name(cursor, alloc)?;
-    let items = table_items(cursor, alloc)?;
-    let options = table_options(cursor, alloc)?;
+    let (items, options) = items_and_options(cursor, alloc)?;
     Ok(CreateTable {
         if_not_exists,
         table,

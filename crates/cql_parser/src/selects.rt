@@ -10,7 +10,7 @@ ghost use Rattle.cql_statement.specs.declared.select.Selection.TheVariants as se
 use crate::cursor::{Cursor, Halt};
 use crate::lists::{Part, Separator, more_of, separated};
 use crate::schema::direction;
-use crate::terms::{name, other_name, relations, table_name, term, word_as_name};
+use crate::terms::{name, other_name, relations_behind_where, table_behind, term, word_as_name};
 use cql_statement::{ColumnOrder, ColumnOrders, Select, Selection, Term};
 use cql_tokens::TokenKind;
 use cs_base::{Items, Text};
@@ -88,10 +88,8 @@ fn select_body(cursor: &mut Cursor<'_>, alloc: Global) -> Result<Select, Halt>
     ensures { Reads (read grammar.select_body cursor.old) result cursor.new }
 {
     let selection = selection(cursor, alloc)?;
-    cursor.word("FROM")?;
-    let table = table_name(cursor, alloc)?;
-    cursor.word("WHERE")?;
-    let relations = relations(cursor, alloc)?;
+    let table = table_behind(cursor, alloc, "FROM")?;
+    let relations = relations_behind_where(cursor, alloc)?;
     let orders = orders(cursor, alloc)?;
     let limit = limit(cursor, alloc)?;
     Ok(Select {

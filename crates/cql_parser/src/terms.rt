@@ -1,9 +1,10 @@
 //! Names and terms.
 
-ghost use Rattle.std.specs.Prelude.{◌≡◌, IfOk, string_bytes};
+ghost use Rattle.std.specs.Prelude.{◌≡◌, IfOk, codes, string_bytes};
 ghost use Rattle.std.specs.Str.{chars, encode_utf8_all};
 ghost use Rattle.cql_parser.specs.Grammar as grammar;
 ghost use Rattle.cql_parser.specs.Grammar.{unquoted, name_of, literal_as};
+ghost use Rattle.cql_parser.specs.Forms.{word as forms_word, ◌▹◌};
 ghost use Rattle.cql_parser.specs.Forms.{Form as forms, Terminal as terminals};
 ghost use Rattle.cql_parser.specs.Gives.{Reads, seen};
 ghost use Rattle.cql_parser.specs.Reading.{read};
@@ -125,6 +126,18 @@ pub(crate) fn table_name(cursor: &mut Cursor<'_>, alloc: Global) -> Result<Table
     })
 }
 
+/// A word and the name of a table.
+pub(crate) fn table_behind(
+    cursor: &mut Cursor<'_>,
+    alloc: Global,
+    word: &str,
+) -> Result<TableName, Halt>
+    ensures { Reads (read (forms_word word.now ▹ grammar.table_name) cursor.old) result cursor.new }
+{
+    cursor.word(word)?;
+    table_name(cursor, alloc)
+}
+
 /// A token of this kind as a literal.
 pub(crate) fn literal(
     cursor: &mut Cursor<'_>,
@@ -237,8 +250,19 @@ impl Part for Relation {
 
 /// `relation {AND relation}`.
 #[tactic(auto, unfolding(crate::specs::Grammar::relations))]
-pub(crate) fn relations(cursor: &mut Cursor<'_>, alloc: Global) -> Result<Relations, Halt>
+fn relations(cursor: &mut Cursor<'_>, alloc: Global) -> Result<Relations, Halt>
     ensures { Reads (read grammar.relations cursor.old) result cursor.new }
 {
     separated(cursor, alloc, Separator::And)
+}
+
+/// `WHERE relation {AND relation}`.
+pub(crate) fn relations_behind_where(
+    cursor: &mut Cursor<'_>,
+    alloc: Global,
+) -> Result<Relations, Halt>
+    ensures { Reads (read (forms_word (codes "WHERE") ▹ grammar.relations) cursor.old) result cursor.new }
+{
+    cursor.word("WHERE")?;
+    relations(cursor, alloc)
 }

@@ -1,7 +1,7 @@
+use crate::helpers::{each_line, show};
+use crate::tokens::spaced;
 use cql_parser::*;
-use cql_tokens::{scan, text_of};
 use std::alloc::{AllocError, Global};
-use std::fmt::Write;
 use std::test::Fail;
 
 /// Statements of each kind.
@@ -128,54 +128,53 @@ Unexpected|BEGIN BATCH APPLY ^;";
 
 fn shown(alloc: Global, text: &str) -> Result<String, AllocError> {
     match parse(alloc, text) {
-        Ok(statement) => format!(in alloc; "{statement:?}"),
-        Err(error) => format!(in alloc; "{error:?}"),
+        Ok(statement) => show(alloc, statement),
+        Err(error) => show(alloc, error),
     }
 }
 
-/// The tokens of a text, with one blank behind each.
-fn spaced(alloc: Global, text: &str) -> Result<String, Fail> {
-    let scanned = scan(alloc, text)?;
-    let mut words = String::new(alloc);
-    for token in scanned.tokens.as_slice() {
-        let word = text_of(text, token).unwrap_or("?");
-        write!(words, "{word} ")?;
-    }
-    Ok(words)
+/// Whether this is what is shown of the text.
+fn is_shown(alloc: Global, text: &str, expected: &str) -> Result<bool, AllocError> {
+    Ok(shown(alloc, text)?.as_str() == expected)
+}
+
+/// Whether this is what is shown of the text's tokens, with blanks between them.
+fn is_shown_again(alloc: Global, text: &str, expected: &str) -> Result<bool, AllocError> {
+    is_shown(alloc, spaced(alloc, text)?.as_str(), expected)
+}
+
+fn is_printed_the_same(alloc: Global, text: &str) -> Result<bool, Fail> {
+    let first = shown(alloc, text)?;
+    Ok(first.len() > 20 && is_shown_again(alloc, text, first.as_str())?)
 }
 
 #[test]
 fn printed_statements_are_the_same(rt: HostRuntime) -> Result<(), Fail> {
-    let alloc = rt.alloc();
-    for text in STATEMENTS.lines() {
-        let first = shown(alloc, text)?;
-        let printed = spaced(alloc, text)?;
-        let again = shown(alloc, printed.as_str())?;
-        assert!(rt; first.len() > 20, "{text}: {first}");
-        assert_eq!(rt; first.as_str(), again.as_str(), "{text}");
-    }
-    Ok(())
+    each_line(&rt, rt.alloc(), STATEMENTS, is_printed_the_same)
 }
 
-/// A line of refusals in the form of what is shown, and its text.
-fn refusal(alloc: Global, line: &str) -> Result<(String, String), Fail> {
+fn joined(alloc: Global, front: &str, behind: &str) -> Result<String, AllocError> {
+    let mut text = String::from_str(alloc, front)?;
+    text.push_str(behind)?;
+    Ok(text)
+}
+
+/// Whether the text is refused for this cause at this place.
+fn is_cause(alloc: Global, text: &str, cause: &str, at: usize) -> Result<bool, AllocError> {
+    let expected = format!(in alloc; "{cause}({at})")?;
+    is_shown(alloc, text, expected.as_str())
+}
+
+fn is_refused(alloc: Global, line: &str) -> Result<bool, Fail> {
     let (cause, marked) = line.split_once('|').unwrap_or((line, ""));
     let (front, behind) = marked.split_once('^').unwrap_or((marked, ""));
-    let at = front.len();
-    let expected = format!(in alloc; "{cause}({at})")?;
-    let text = format!(in alloc; "{front}{behind}")?;
-    Ok((expected, text))
+    let text = joined(alloc, front, behind)?;
+    Ok(is_cause(alloc, text.as_str(), cause, front.len())?)
 }
 
 #[test]
 fn refusals_of_the_table(rt: HostRuntime) -> Result<(), Fail> {
-    let alloc = rt.alloc();
-    for line in REFUSALS.lines() {
-        let (expected, text) = refusal(alloc, line)?;
-        let shown = shown(alloc, text.as_str())?;
-        assert_eq!(rt; shown.as_str(), expected.as_str(), "{line}");
-    }
-    Ok(())
+    each_line(&rt, rt.alloc(), REFUSALS, is_refused)
 }
 
 /// What is shown of a statement, and the statement.
@@ -191,15 +190,14 @@ Delete(Delete { columns: Items { items: [] }, table: TableName { keyspace: None,
 Select(Select { selection: Count, table: TableName { keyspace: None, name: \"t\" }, relations: Items { items: [Relation { column: \"k\", operator: Less, term: Constant(Literal { kind: Str, text: \"'it''s'\" }) }] }, orders: Items { items: [ColumnOrder { column: \"c\", is_descending: false }, ColumnOrder { column: \"d\", is_descending: true }] }, limit: Some(Marker) })|SELECT COUNT(*) FROM t WHERE k < 'it''s' ORDER BY c, d DESC LIMIT ?
 Batch(Batch { is_unlogged: true, stamp: None, statements: Items { items: [] } })|BEGIN UNLOGGED BATCH APPLY BATCH";
 
+fn is_shown_of_line(alloc: Global, line: &str) -> Result<bool, Fail> {
+    let (expected, text) = line.split_once('|').unwrap_or((line, ""));
+    Ok(is_shown(alloc, text, expected)?)
+}
+
 #[test]
 fn statements_of_the_table(rt: HostRuntime) -> Result<(), Fail> {
-    let alloc = rt.alloc();
-    for line in SHOWN.lines() {
-        let (expected, text) = line.split_once('|').unwrap_or((line, ""));
-        let shown = shown(alloc, text)?;
-        assert_eq!(rt; shown.as_str(), expected);
-    }
-    Ok(())
+    each_line(&rt, rt.alloc(), SHOWN, is_shown_of_line)
 }
 
 /// A SELECT with so many relations.
@@ -211,23 +209,33 @@ fn long_select(alloc: Global, relations: usize) -> Result<String, AllocError> {
     Ok(text)
 }
 
+/// Whether the text is refused for this as tokens alone, or is not refused.
+fn is_fault(alloc: Global, text: &str, fault: Option<ParseError>) -> bool {
+    tokens(alloc, text).err() == fault
+}
+
+/// Whether the text is refused for this as a statement and as tokens, or is not refused.
+fn is_fault_of_both(alloc: Global, text: &str, fault: Option<ParseError>) -> bool {
+    parse(alloc, text).err() == fault && is_fault(alloc, text, fault)
+}
+
 /// Four tokens, and four for each relation.
 #[test]
 fn too_many_tokens(rt: HostRuntime) -> Result<(), Fail> {
     let alloc = rt.alloc();
-    let long = long_select(alloc, 16382)?;
-    assert!(rt; parse(alloc, long.as_str()).is_ok());
-    assert!(rt; tokens(alloc, long.as_str()).is_ok());
-    let longer = long_select(alloc, 16383)?;
-    assert!(rt; matches!(parse(alloc, longer.as_str()), Err(ParseError::TooLong)));
-    assert!(rt; matches!(tokens(alloc, longer.as_str()), Err(ParseError::TooLong)));
+    for (relations, fault) in [(16382, None), (16383, Some(ParseError::TooLong))] {
+        assert!(rt; is_fault_of_both(alloc, long_select(alloc, relations)?.as_str(), fault));
+    }
     Ok(())
 }
 
 #[test]
 fn tokens_alone(rt: HostRuntime) {
-    let alloc = rt.alloc();
-    assert!(rt; tokens(alloc, "SELECT , ;").is_ok());
-    assert!(rt; matches!(tokens(alloc, "a $ 'b"), Err(ParseError::Char(2))));
-    assert!(rt; matches!(tokens(alloc, "a 'b"), Err(ParseError::Unclosed(2))));
+    for (text, fault) in [
+        ("SELECT , ;", None),
+        ("a $ 'b", Some(ParseError::Char(2))),
+        ("a 'b", Some(ParseError::Unclosed(2))),
+    ] {
+        assert!(rt; is_fault(rt.alloc(), text, fault), "{text}");
+    }
 }

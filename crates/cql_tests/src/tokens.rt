@@ -1,3 +1,4 @@
+use crate::helpers::each_line;
 use cql_tokens::*;
 use std::alloc::{AllocError, Global};
 use std::fmt::Write;
@@ -117,80 +118,103 @@ Word 0 4, Word 5 9, Word 10 13|tRuE NULL nan
 Str 0 4|'--' -- '
 QuotedName 0 4, QuotedName 13 17|\"/*\" /* \" */ \"*/\"";
 
+fn meant(character: char) -> char {
+    if character == '~' { '\n' } else { character }
+}
+
 fn with_line_feeds(alloc: Global, text: &str) -> Result<String, AllocError> {
     let mut lines = String::new(alloc);
     for character in text.chars() {
-        lines.push(if character == '~' { '\n' } else { character })?;
+        lines.push(meant(character))?;
     }
     Ok(lines)
 }
 
-fn shown(alloc: Global, text: &str) -> Result<String, Fail> {
-    let scanned = scan(alloc, text)?;
-    let mut shown = String::new(alloc);
-    let mut comma = "";
+/// A token behind what is shown already, with a comma between them.
+fn show_token(shown: &mut String, token: &Token) -> Result<(), AllocError> {
+    let comma = if shown.is_empty() { "" } else { ", " };
+    let Token { kind, start, end } = *token;
+    write!(shown, "{comma}{kind:?} {start} {end}")
+}
+
+/// The same for what the tokens stop at.
+fn show_stop(shown: &mut String, stop: Stop) -> Result<(), AllocError> {
+    let comma = if shown.is_empty() { "" } else { ", " };
+    write!(shown, "{comma}{stop:?}")
+}
+
+fn show(shown: &mut String, scanned: &Scanned) -> Result<(), AllocError> {
     for token in scanned.tokens.as_slice() {
-        let kind = token.kind;
-        let start = token.start;
-        let end = token.end;
-        write!(shown, "{comma}{kind:?} {start} {end}")?;
-        comma = ", ";
+        show_token(shown, token)?;
     }
-    if let Some(stop) = scanned.stop {
-        write!(shown, "{comma}{stop:?}")?;
+    match scanned.stop {
+        Some(stop) => show_stop(shown, stop),
+        None => Ok(()),
     }
-    Ok(shown)
+}
+
+/// Whether these are the tokens of the text, and what they stop at.
+fn is_shown(alloc: Global, text: &str, expected: &str) -> Result<bool, Fail> {
+    let mut shown = String::new(alloc);
+    show(&mut shown, &scan(alloc, text)?)?;
+    Ok(shown.as_str() == expected)
+}
+
+fn is_shown_of_line(alloc: Global, line: &str) -> Result<bool, Fail> {
+    let (expected, text) = line.split_once('|').unwrap_or((line, ""));
+    is_shown(alloc, with_line_feeds(alloc, text)?.as_str(), expected)
 }
 
 #[test]
 fn tokens_of_the_table(rt: HostRuntime) -> Result<(), Fail> {
-    let alloc = rt.alloc();
-    for line in TABLE.lines() {
-        let (expected, text) = line.split_once('|').unwrap_or((line, ""));
-        let text = with_line_feeds(alloc, text)?;
-        let shown = shown(alloc, text.as_str())?;
-        assert_eq!(rt; shown.as_str(), expected, "{line}");
-    }
-    Ok(())
+    each_line(&rt, rt.alloc(), TABLE, is_shown_of_line)
 }
 
 #[test]
 fn all_blanks_are_blanks(rt: HostRuntime) -> Result<(), Fail> {
-    let alloc = rt.alloc();
-    let shown_blanks = shown(alloc, "\ta\r\nb\n c\r-- d\r\te\n")?;
-    assert_eq!(rt; shown_blanks.as_str(), "Word 1 2, Word 4 5, Word 7 8");
-    // Other white space is none.
-    let feed = shown(alloc, "a\u{c}b")?;
-    assert_eq!(rt; feed.as_str(), "Word 0 1, Char(1)");
-    let no_break = shown(alloc, "a\u{a0}b")?;
-    assert_eq!(rt; no_break.as_str(), "Word 0 1, Char(1)");
-    let zero = shown(alloc, "\0")?;
-    assert_eq!(rt; zero.as_str(), "Char(0)");
+    for (text, expected) in [
+        ("\ta\r\nb\n c\r-- d\r\te\n", "Word 1 2, Word 4 5, Word 7 8"),
+        // Other white space is none.
+        ("a\u{c}b", "Word 0 1, Char(1)"),
+        ("a\u{a0}b", "Word 0 1, Char(1)"),
+        ("\0", "Char(0)"),
+    ] {
+        assert!(rt; is_shown(rt.alloc(), text, expected)?, "{expected}");
+    }
     Ok(())
 }
 
 const STATEMENT: &str =
     "SELECT k,\"V\" FROM ks.t -- all\nWHERE k>='\u{e9}''s' /* \u{20ac} */ AND i = 0xAB";
 
-/// The texts of the tokens of a text, with one blank behind each.
-fn words(alloc: Global, text: &str) -> Result<String, Fail> {
-    let scanned = scan(alloc, text)?;
+/// The texts of its tokens, with one blank behind each.
+const WORDS: &str = "SELECT k , \"V\" FROM ks . t WHERE k >= '\u{e9}''s' AND i = 0xAB ";
+
+/// The texts of these tokens of a text.
+fn words(alloc: Global, text: &str, tokens: &[Token]) -> Result<String, AllocError> {
     let mut words = String::new(alloc);
-    for token in scanned.tokens.as_slice() {
-        let word = text_of(text, token).unwrap_or("?");
-        write!(words, "{word} ")?;
+    for token in tokens {
+        words.push_str(text_of(text, token).unwrap_or("?"))?;
+        words.push(' ')?;
     }
     Ok(words)
 }
 
+/// The texts of the tokens of a text, with one blank behind each.
+pub fn spaced(alloc: Global, text: &str) -> Result<String, AllocError> {
+    words(alloc, text, scan(alloc, text)?.tokens.as_slice())
+}
+
+fn has_words(alloc: Global, text: &str, expected: &str) -> Result<bool, AllocError> {
+    Ok(spaced(alloc, text)?.as_str() == expected)
+}
+
+/// The texts that are put together have the same tokens again.
 #[test]
 fn texts_of_tokens(rt: HostRuntime) -> Result<(), Fail> {
-    let alloc = rt.alloc();
-    let first = words(alloc, STATEMENT)?;
-    let expected = "SELECT k , \"V\" FROM ks . t WHERE k >= '\u{e9}''s' AND i = 0xAB ";
-    assert_eq!(rt; first.as_str(), expected);
-    let again = words(alloc, first.as_str())?;
-    assert_eq!(rt; again.as_str(), expected);
+    for text in [STATEMENT, WORDS] {
+        assert!(rt; has_words(rt.alloc(), text, WORDS)?, "{text}");
+    }
     Ok(())
 }
 
@@ -204,12 +228,18 @@ fn token(start: usize, end: usize) -> Token {
 
 #[test]
 fn texts_of_other_tokens(rt: HostRuntime) {
-    let text = "a\u{e9}b";
-    assert_eq!(rt; text_of(text, &token(1, 3)), Some("\u{e9}"));
-    assert_eq!(rt; text_of(text, &token(4, 4)), Some(""));
-    assert_eq!(rt; text_of(text, &token(3, 5)), None);
-    assert_eq!(rt; text_of(text, &token(3, 1)), None);
-    assert_eq!(rt; text_of(text, &token(1, 2)), None);
-    assert_eq!(rt; text_of(text, &token(2, 3)), None);
-    assert_eq!(rt; text_of(text, &token(5, 5)), None);
+    for (start, end, expected) in [
+        (1, 3, Some("\u{e9}")),
+        (4, 4, Some("")),
+        (3, 5, None),
+        (3, 1, None),
+        (1, 2, None),
+        (2, 3, None),
+        (5, 5, None),
+    ] {
+        assert!(rt;
+            text_of("a\u{e9}b", &token(start, end)) == expected,
+            "{start} {end}"
+        );
+    }
 }

@@ -1,6 +1,8 @@
+use crate::helpers::{each_line, is_shown};
 use cql_values::*;
 use cs_base::Text;
 use std::alloc::{AllocError, Global};
+use std::fmt::Debug;
 use std::test::Fail;
 
 /// A type, protocol bytes and a literal of a value, as the DataStax driver gives them.
@@ -179,123 +181,195 @@ fn literal(alloc: Global, kind: LiteralKind, text: &str) -> Result<Literal, Allo
     })
 }
 
+/// The value of a literal.
+fn value_of(
+    alloc: Global,
+    (ty, kind): (CqlType, LiteralKind),
+    text: &str,
+) -> Result<CqlValue, LiteralError> {
+    read_literal(alloc, ty, &literal(alloc, kind, text)?)
+}
+
+fn is_encoded(alloc: Global, value: &CqlValue, bytes: &[u8]) -> Result<bool, AllocError> {
+    Ok(encode(alloc, value)?.as_slice() == bytes)
+}
+
+fn is_written(
+    alloc: Global,
+    ty: (CqlType, LiteralKind),
+    bytes: &[u8],
+    text: &str,
+) -> Result<bool, LiteralError> {
+    Ok(is_encoded(alloc, &value_of(alloc, ty, text)?, bytes)?)
+}
+
+fn is_read(alloc: Global, ty: CqlType, bytes: &[u8], text: &str) -> Result<bool, ValueError> {
+    let value = decode(alloc, ty, bytes)?;
+    Ok(print_literal(alloc, &value)?.as_str() == text)
+}
+
 fn is_read_and_written(alloc: Global, line: &str) -> Result<bool, Fail> {
     let (name, rest) = word(line);
     let (hex, text) = word(rest);
-    let (ty, kind) = type_named(name);
+    let ty = type_named(name);
     let bytes = hex::decode(alloc, hex)?;
-    let literal = literal(alloc, kind, text)?;
-    let value = read_literal(alloc, ty, &literal)?;
-    let written = encode(alloc, &value)?;
-    let decoded = decode(alloc, ty, bytes.as_slice())?;
-    let printed = print_literal(alloc, &decoded)?;
-    Ok(written.as_slice() == bytes.as_slice() && printed.as_str() == text)
+    let is_written = is_written(alloc, ty, bytes.as_slice(), text)?;
+    Ok(is_written && is_read(alloc, ty.0, bytes.as_slice(), text)?)
 }
 
 #[test]
 fn values_of_the_driver(rt: HostRuntime) -> Result<(), Fail> {
-    for line in DRIVER.lines() {
-        assert!(rt; is_read_and_written(rt.alloc(), line)?, "{line}");
+    each_line(&rt, rt.alloc(), DRIVER, is_read_and_written)
+}
+
+fn has_order_bytes(
+    alloc: Global,
+    value: &CqlValue,
+    is_descending: bool,
+    bytes: &[u8],
+) -> Result<bool, AllocError> {
+    if value.type_of() == CqlType::Uuid {
+        return Ok(false);
     }
-    Ok(())
+    Ok(order_bytes(alloc, value, is_descending)?.as_slice() == bytes)
+}
+
+/// Whether both have the same protocol bytes.
+fn is_same(alloc: Global, value: &CqlValue, other: &CqlValue) -> Result<bool, AllocError> {
+    is_encoded(alloc, value, encode(alloc, other)?.as_slice())
+}
+
+/// Whether the value is read from the bytes but for the last one.
+fn is_read_of_order(
+    alloc: Global,
+    value: &CqlValue,
+    is_descending: bool,
+    bytes: &[u8],
+) -> Result<bool, OrderError> {
+    let ty = value.type_of();
+    if ty == CqlType::Uuid {
+        return Ok(false);
+    }
+    let (read, len) = read_order(alloc, ty, is_descending, bytes)?;
+    Ok(len.saturating_add(1) == bytes.len() && is_same(alloc, value, &read)?)
+}
+
+/// Order bytes, and another byte behind them.
+fn with_another(alloc: Global, hex: &str) -> Result<Vec<u8>, Fail> {
+    let mut bytes = hex::decode(alloc, hex)?;
+    bytes.push(0xc3)?;
+    Ok(bytes)
+}
+
+/// Whether the bytes but for the last one are the value's, and it is read from them.
+fn has_order(
+    alloc: Global,
+    value: &CqlValue,
+    is_descending: bool,
+    bytes: &[u8],
+) -> Result<bool, Fail> {
+    let Some((_, front)) = bytes.split_last() else {
+        return Ok(false);
+    };
+    Ok(
+        has_order_bytes(alloc, value, is_descending, front)?
+            && is_read_of_order(alloc, value, is_descending, bytes)?,
+    )
 }
 
 fn is_ordered(alloc: Global, line: &str) -> Result<bool, Fail> {
     let (name, rest) = word(line);
     let (direction, rest) = word(rest);
     let (hex, text) = word(rest);
-    let (ty, kind) = type_named(name);
-    if ty == CqlType::Uuid {
-        return Ok(false);
-    }
-    let mut bytes = hex::decode(alloc, hex)?;
-    let literal = literal(alloc, kind, text)?;
-    let value = read_literal(alloc, ty, &literal)?;
-    if value.type_of() == CqlType::Uuid {
-        return Ok(false);
-    }
-    let word = order_bytes(alloc, &value, direction == "desc")?;
-    let same = word.as_slice() == bytes.as_slice();
-    bytes.push(0xc3)?;
-    let (read, len) = read_order(alloc, ty, direction == "desc", bytes.as_slice())?;
-    let written = encode(alloc, &value)?;
-    let again = encode(alloc, &read)?;
-    Ok(same && len == word.as_slice().len() && written.as_slice() == again.as_slice())
+    let value = value_of(alloc, type_named(name), text)?;
+    let bytes = with_another(alloc, hex)?;
+    has_order(alloc, &value, direction == "desc", bytes.as_slice())
 }
 
 #[test]
 fn order_bytes_of_values(rt: HostRuntime) -> Result<(), Fail> {
-    for line in ORDERED.lines() {
-        assert!(rt; is_ordered(rt.alloc(), line)?, "{line}");
+    each_line(&rt, rt.alloc(), ORDERED, is_ordered)
+}
+
+/// Whether there is this error.
+fn is_error<E: Debug + Drop>(
+    alloc: Global,
+    error: Option<E>,
+    want: &str,
+) -> Result<bool, AllocError> {
+    match error {
+        Some(error) => is_shown(alloc, error, want),
+        None => Ok(false),
     }
-    Ok(())
 }
 
 fn is_refused(alloc: Global, line: &str) -> Result<bool, Fail> {
     let (name, rest) = word(line);
     let (hex, want) = word(rest);
+    let (ty, _) = type_named(name);
     let bytes = hex::decode(alloc, hex)?;
-    match decode(alloc, type_named(name).0, bytes.as_slice()) {
-        Ok(_) => Ok(false),
-        Err(error) => Ok(format!(in alloc; "{error:?}")?.as_str() == want),
-    }
+    let error = decode(alloc, ty, bytes.as_slice()).err();
+    Ok(is_error(alloc, error, want)?)
 }
 
 fn is_refused_literal(alloc: Global, line: &str) -> Result<bool, Fail> {
     let (name, rest) = word(line);
     let (kind, rest) = word(rest);
     let (want, text) = word(rest);
-    let literal = literal(alloc, type_named(kind).1, text)?;
-    match read_literal(alloc, type_named(name).0, &literal) {
-        Ok(_) => Ok(false),
-        Err(error) => Ok(format!(in alloc; "{error:?}")?.as_str() == want),
-    }
+    let ty = (type_named(name).0, type_named(kind).1);
+    Ok(is_error(alloc, value_of(alloc, ty, text).err(), want)?)
 }
 
 fn is_refused_order(alloc: Global, line: &str) -> Result<bool, Fail> {
     let (name, rest) = word(line);
     let (direction, rest) = word(rest);
     let (hex, want) = word(rest);
-    let bytes = hex::decode(alloc, hex)?;
     let (ty, _) = type_named(name);
     if ty == CqlType::Uuid {
         return Ok(false);
     }
-    match read_order(alloc, ty, direction == "desc", bytes.as_slice()) {
-        Ok(_) => Ok(false),
-        Err(error) => Ok(format!(in alloc; "{error:?}")?.as_str() == want),
-    }
+    let bytes = hex::decode(alloc, hex)?;
+    let error = read_order(alloc, ty, direction == "desc", bytes.as_slice()).err();
+    Ok(is_error(alloc, error, want)?)
 }
 
 #[test]
 fn refusals(rt: HostRuntime) -> Result<(), Fail> {
-    for line in REFUSED_BYTES.lines() {
-        assert!(rt; is_refused(rt.alloc(), line)?, "{line}");
-    }
-    for line in REFUSED_LITERALS.lines() {
-        assert!(rt; is_refused_literal(rt.alloc(), line)?, "{line}");
-    }
-    for line in REFUSED_ORDER.lines() {
-        assert!(rt; is_refused_order(rt.alloc(), line)?, "{line}");
-    }
+    each_line(&rt, rt.alloc(), REFUSED_BYTES, is_refused)?;
+    each_line(&rt, rt.alloc(), REFUSED_LITERALS, is_refused_literal)?;
+    each_line(&rt, rt.alloc(), REFUSED_ORDER, is_refused_order)
+}
+
+fn push_part(key: &mut Vec<u8>, part: &[u8]) -> Result<(), AllocError> {
+    let length = part.len().min(0xffff) as u16;
+    key.extend_from_slice(&length.to_be_bytes())?;
+    key.extend_from_slice(part)?;
+    key.push(0)?;
     Ok(())
+}
+
+fn push_value(alloc: Global, key: &mut Vec<u8>, value: &CqlValue) -> Result<(), AllocError> {
+    push_part(key, encode(alloc, value)?.as_slice())
+}
+
+fn is_key(
+    alloc: Global,
+    first: &CqlValue,
+    second: &CqlValue,
+    bytes: &[u8],
+) -> Result<bool, AllocError> {
+    let mut key = Vec::new(alloc);
+    push_value(alloc, &mut key, first)?;
+    push_value(alloc, &mut key, second)?;
+    Ok(key.as_slice() == bytes)
 }
 
 /// A key of several parts is hashed as each part behind its length in two bytes, and a 0 after it.
 #[test]
 fn parts_of_a_hashed_key(rt: HostRuntime) -> Result<(), Fail> {
     let alloc = rt.alloc();
-    let first = encode(alloc, &CqlValue::Int(1))?;
-    let second = encode(alloc, &CqlValue::Text(Text::from_str(alloc, "a")?))?;
-    let mut key = Vec::new(alloc);
-    for part in [first.as_slice(), second.as_slice()] {
-        key.extend_from_slice(&(part.len() as u16).to_be_bytes())?;
-        key.extend_from_slice(part)?;
-        key.push(0)?;
-    }
-    assert_eq!(rt;
-        key.as_slice(),
-        b"\x00\x04\x00\x00\x00\x01\x00\x00\x01a\x00".as_slice()
-    );
+    let text = CqlValue::Text(Text::from_str(alloc, "a")?);
+    let bytes = b"\x00\x04\x00\x00\x00\x01\x00\x00\x01a\x00";
+    assert!(rt; is_key(alloc, &CqlValue::Int(1), &text, bytes)?);
     Ok(())
 }

@@ -87,9 +87,15 @@ impl Kept {
 /// A string of bytes, which compares as `memcmp` does: byte by byte, a beginning before the whole.
 ///
 /// A short string is kept in the value itself, and the copies of a longer one share its memory.
-#[derive(Drop)]
 pub struct Bytes {
     kept: Kept,
+}
+
+// Written out, a drop is one call wherever a value holds bytes, and not a match on where they lie.
+impl Drop for Bytes {
+    fn drop(self) {
+        let Bytes { kept: _ } = self;
+    }
 }
 
 impl Model for Bytes {
@@ -151,7 +157,8 @@ impl Bytes {
     pub fn into_vec(self, alloc: Global) -> Result<Vec<u8>, AllocError>
         ensures { IfOk result (λ bytes. bytes.items ≡ self) }
     {
-        match self.kept {
+        let Bytes { kept } = self;
+        match kept {
             Kept::Owned(bytes) => Ok(bytes),
             kept => Vec::from_slice(alloc, kept.as_slice()),
         }
@@ -214,36 +221,5 @@ impl Ord for Bytes {
 
     fn cmp(&self, other: &Bytes) -> Ordering {
         self.as_slice().cmp(other.as_slice())
-    }
-}
-
-#[cfg(test)]
-mod tests {
-    use super::*;
-    use std::test::Fail;
-
-    /// Strings that are kept inline, the longest of them, and one that is longer.
-    const STRINGS: [&[u8]; 4] = [
-        b"",
-        b"k\xff\x00",
-        b"012345678901234567890123",
-        b"0123456789012345678901234",
-    ];
-
-    #[test]
-    fn bytes_are_kept_and_copied(rt: HostRuntime) -> Result<(), Fail> {
-        for string in STRINGS {
-            let bytes = Bytes::from_slice(rt.alloc(), string)?;
-            assert_eq!(rt; bytes.as_slice(), string);
-            let copy = bytes.copy(rt.alloc())?;
-            assert_eq!(rt; copy, bytes);
-            assert!(rt; Bytes::from_slice(rt.alloc(), b"k")? != bytes);
-            assert_eq!(rt; copy.into_vec(rt.alloc())?.as_slice(), string);
-            let taken = Bytes::from_vec(Vec::from_slice(rt.alloc(), string)?);
-            assert_eq!(rt; taken.copy(rt.alloc())?, bytes);
-        }
-        let beginning = Bytes::from_slice(rt.alloc(), b"k")?;
-        assert!(rt; beginning < Bytes::from_slice(rt.alloc(), b"k\xff\x00")?);
-        Ok(())
     }
 }

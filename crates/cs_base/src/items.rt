@@ -58,19 +58,3 @@ impl<T: Drop> Items<T> {
         self.items.push(item)
     }
 }
-
-#[cfg(test)]
-mod tests {
-    use super::*;
-    use std::test::Fail;
-
-    #[test]
-    fn pushes_items(rt: HostRuntime) -> Result<(), Fail> {
-        let mut items = Items::new(rt.alloc());
-        items.push(3u8)?;
-        items.push(1)?;
-        assert_eq!(rt; items.as_slice(), [3, 1].as_slice());
-        assert_eq!(rt; items.into_vec().as_slice(), [3, 1].as_slice());
-        Ok(())
-    }
-}

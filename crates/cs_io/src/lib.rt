@@ -4,15 +4,11 @@
 
 mod gate;
 mod link;
-#[cfg(test)]
-mod link_tests;
 mod mem_link;
 mod pieces;
 mod sink;
 mod source;
 mod stop;
-#[cfg(test)]
-mod tests;
 
 pub use gate::{Gate, HoldGate, OpenGate, Passage, Point};
 pub use link::{Heard, Link};

@@ -15,13 +15,22 @@ use crate::script::{
     EventLine, Fault, GetRequest, LineError, MessagePlace, PutRequest, ScriptEvent,
 };
 use cs_base::{Micros, NodeId, Text};
-use std::alloc::Global;
+use std::alloc::{AllocError, Global};
 
 /// The most times that a line `settle` delivers a message.
 const MOST_DELIVERIES: u64 = 100_000;
 
 /// The last call of a store that a line can name.
 const LAST_CALL: u64 = 4_294_967_295;
+
+/// The row and the value of a line `put`.
+fn cell_texts(alloc: Global, row: &str, value: &str) -> Result<(Text, Text), AllocError>
+    ensures { IfOk result (λ texts. texts ≡ (row.now, value.now)) }
+{
+    let row = Text::from_str(alloc, row)?;
+    let value = Text::from_str(alloc, value)?;
+    Ok((row, value))
+}
 
 fn put_line(alloc: Global, nodes: u8, words: &[&str]) -> Result<ScriptEvent, LineError>
     requires some { 1 ≤ nodes }
@@ -43,13 +52,15 @@ fn put_line(alloc: Global, nodes: u8, words: &[&str]) -> Result<ScriptEvent, Lin
     let Some(timestamp) = long_value(timestamp) else {
         return Err(LineError::Fault(Fault::Number));
     };
+    let key = Text::from_str(alloc, key)?;
+    let (row, value) = cell_texts(alloc, row, value)?;
     Ok(ScriptEvent::Put(PutRequest {
         node,
         level,
-        key: Text::from_str(alloc, key)?,
-        row: Text::from_str(alloc, row)?,
+        key,
+        row,
         timestamp,
-        value: Text::from_str(alloc, value)?,
+        value,
     }))
 }
 

@@ -61,7 +61,7 @@ impl SchemaLines {
         ensures err { OnErr result (self.new ≡ self.old) }
         ensures memory { IfErr result (λ e. e ≡ ParseError.NoMemory) }
     {
-        reserve_line(&mut self.numbers, &mut self.texts)?;
+        let statement = reserve_line(&mut self.numbers, &mut self.texts).and(Ok(statement))?;
         self.statements.push(statement)?;
         self.numbers.push_reserved(number);
         self.texts.push_reserved(text);

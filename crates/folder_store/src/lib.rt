@@ -11,8 +11,6 @@ mod file_store;
 mod folder;
 mod opening;
 mod system;
-#[cfg(test)]
-mod tests;
 
 pub use dir_stores::DirStores;
 pub use file_store::FileStore;

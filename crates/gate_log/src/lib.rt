@@ -6,8 +6,6 @@ mod error;
 mod format;
 mod log;
 mod reading;
-#[cfg(test)]
-mod tests;
 
 pub use entries::Entries;
 pub use error::GateError;

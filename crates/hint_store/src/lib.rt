@@ -14,6 +14,3 @@ mod tally;
 pub use aging::Expired;
 pub use laws::{same_hints_are_an_equivalence, same_hints_stay_the_same};
 pub use store::HintStore;
-
-#[cfg(test)]
-mod tests;

@@ -185,6 +185,7 @@ impl HintStore {
         ensures err { OnErr result (self.new.now ≡ self.old.now) }
     {
         if self.is_full(peer) {
+            drop(mutation);
             return Ok(None);
         }
         let number = self.current.last(peer) + 1;

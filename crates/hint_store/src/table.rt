@@ -1,9 +1,10 @@
 //! A table of hints, with what finds them by number and by age.
 
-ghost use Rattle.std.specs.Prelude.{◌≡◌, ◌+◌, [], false, not, filter, length, OnOk, OnErr, IfSome, IfNone};
+ghost use Rattle.std.specs.Prelude.{◌≡◌, ◌+◌, [], false, not, filter, length, OnOk, OnErr, IfErr, IfSome, IfNone};
 ghost use Rattle.std.specs.List.{list_any};
+ghost use Rattle.std.specs.BTreeMap.{insert_entry, IsOrdered};
 ghost use Rattle.std.specs.Map.{values_of};
-ghost use Rattle.hint_store.specs.Tables.{is_place, is_hint, IsVacant, IsPushed, IsAt};
+ghost use Rattle.hint_store.specs.Tables.{place_cmp, is_place, is_hint, IsVacant, IsPushed, IsAt};
 
 use crate::index::{ByAge, ByNumber, enter, leave};
 use cs_base::NodeId;
@@ -34,6 +35,22 @@ impl Model for HintTable {
     ghost view = { λ a. record { entries = a.by_place.entries; next = a.next } };
 
     ghost invariant = { λ a. IsTable a.by_place.entries a.by_number.keys a.by_age.keys a.next };
+}
+
+/// Puts in a hint at a place, or hands it back for want of memory.
+fn put_in(by_place: &mut BTreeMap<Place, Hint>, place: Place, hint: Hint) -> Result<(), Hint>
+    ensures entries { OnOk result (by_place.new.entries ≡ insert_entry place_cmp by_place.old.entries place hint) }
+    ensures ordered { IsOrdered place_cmp by_place.new }
+    ensures err { OnErr result (by_place.new.entries ≡ by_place.old.entries) }
+    ensures back { IfErr result (λ back. back ≡ hint) }
+{
+    match by_place.insert(place, hint) {
+        Ok(old) => {
+            drop(old);
+            Ok(())
+        }
+        Err(failed) => Err(failed.value.1),
+    }
 }
 
 impl HintTable {
@@ -67,13 +84,9 @@ impl HintTable {
             return Err(AllocError);
         };
         enter(&mut self.by_number, &mut self.by_age, &hint, sequence)?;
-        if let Err(failed) = self.by_place.insert((hint.peer, sequence), hint) {
-            leave(
-                &mut self.by_number,
-                &mut self.by_age,
-                &failed.value.1,
-                sequence,
-            );
+        if let Err(hint) = put_in(&mut self.by_place, (hint.peer, sequence), hint) {
+            leave(&mut self.by_number, &mut self.by_age, &hint, sequence);
+            drop(hint);
             return Err(AllocError);
         }
         self.next = next;
@@ -86,6 +99,7 @@ impl HintTable {
     {
         if let Some(hint) = self.by_place.remove(place) {
             leave(&mut self.by_number, &mut self.by_age, &hint, place.1);
+            drop(hint);
         }
     }
 

@@ -92,9 +92,17 @@ fn begin(
 {
     let key = partition.copy(alloc)?;
     let mut content = PartitionContent::new(alloc);
-    let within = reserve_in(&mut content, incoming)?;
-    contents.insert(key, content)?;
-    Ok(within)
+    match reserve_in(&mut content, incoming) {
+        Ok(within) => {
+            drop(contents.insert(key, content)?);
+            Ok(within)
+        }
+        Err(error) => {
+            drop(content);
+            drop(key);
+            Err(error)
+        }
+    }
 }
 
 /// Takes changes in at a node time, for which there is memory.

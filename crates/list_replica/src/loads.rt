@@ -48,9 +48,17 @@ fn begin(
     ensures ordered { IsOrdered partition_cmp loads.new }
 {
     let mut loaded = LoadedContent::new(alloc);
-    loaded.add(incoming, at)?;
-    loads.insert(partition, loaded)?;
-    Ok(())
+    match loaded.add(incoming, at) {
+        Ok(()) => {
+            drop(loads.insert(partition, loaded)?);
+            Ok(())
+        }
+        Err(error) => {
+            drop(loaded);
+            drop(partition);
+            Err(error)
+        }
+    }
 }
 
 /// The contents that they are at the end.
@@ -60,7 +68,13 @@ pub fn into_contents(alloc: Global, loads: Loads) -> Result<Contents, AllocError
 {
     let mut contents = BTreeMap::new(alloc);
     for (partition, loaded) in loads {
-        contents.insert(partition, loaded.into_content()?)?;
+        match loaded.into_content() {
+            Ok(content) => drop(contents.insert(partition, content)?),
+            Err(error) => {
+                drop(partition);
+                return Err(error);
+            }
+        }
     }
     Ok(contents)
 }

@@ -66,7 +66,9 @@ fn remove(loaded: &mut LoadedContent, alloc: Global, held: &Held) -> Result<(), 
     ensures { OnOk result (IsWithout held.now loaded.old.stored loaded.new.stored) }
 {
     let content = mem::replace(loaded, LoadedContent::new(alloc)).into_content()?;
-    *loaded = LoadedContent::from_content(alloc, without(&content, alloc, held)?);
+    let rest = without(&content, alloc, held);
+    drop(content);
+    drop(mem::replace(loaded, LoadedContent::from_content(alloc, rest?)));
     Ok(())
 }
 

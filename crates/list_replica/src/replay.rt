@@ -54,8 +54,13 @@ fn take_data(
     ensures ordered { IsOrdered partition_cmp loads.new }
 {
     let Mutation { partition, changes } = mutation;
-    let incoming = Content::from_changes(alloc, changes.into_vec())?;
-    load_in(loads, alloc, partition, incoming, at)
+    match Content::from_changes(alloc, changes.into_vec()) {
+        Ok(incoming) => load_in(loads, alloc, partition, incoming, at),
+        Err(error) => {
+            drop(partition);
+            Err(error)
+        }
+    }
 }
 
 impl Replay {
@@ -131,7 +136,11 @@ impl Replay {
                 Ok(())
             }
             LogItem::Mark(mark) => self.add_mark(mark),
-            LogItem::Purge(change) => let_go(&mut self.contents, alloc, &change),
+            LogItem::Purge(change) => {
+                let gone = let_go(&mut self.contents, alloc, &change);
+                drop(change);
+                gone
+            }
         }
     }
 

@@ -1,5 +1,5 @@
 -- What a call answers, put together from its clauses.
-use Rattle.std.proofs.Common.{◌≡◌, ◌≤◌, ℕ, inl, inr, Bool, true, false, Result, Ok, Err, IsErrOf, IsOk, IfOk, OnOk, OnErr, refl, sym, ap, subst, arith}
+use Rattle.std.proofs.Common.{◌≡◌, ◌≤◌, ℕ, inl, inr, Bool, true, false, Result, Ok, Err, IsErrOf, IsOk, IfOk, OnOk, OnErr, refl, sym, ap, subst, ◌∙◌, arith}
 use Rattle.std.specs.Prelude.{not}
 use Rattle.std.proofs.lemmas.Bool.{cases_lt}
 use Rattle.cs_base.specs.Faults.{HasRisen}
@@ -96,3 +96,26 @@ not_true false h = refl
 pub not_false : (b : Bool) → not b ≡ false → b ≡ true
 not_false true h = refl
 not_false false h = sym h
+
+-- ---- the error that a `?` hands on
+
+pub hands_on : {S T E : Type 0} {r : Result T E} {e x : E} → (y : E) × (r ≡ Err y) × (y ≡ e) → (let q : Result S E = Err e in q ≡ Err x) → r ≡ Err x
+hands_on {S} {T} {E} {r} {e} {x} (y, is, same) h = is ∙ ap (λ (z : E). Err z) (same ∙ one_error h)
+  where
+    one_error : {a b : E} → (let q : Result S E = Err a in q ≡ Err b) → a ≡ b
+    one_error {a} {b} k = cc
+
+pub same_told : {T E : Type 0} {r : Result T E} {e x : E} → (y : E) × (r ≡ Err y) × (y ≡ e) → r ≡ Err x → e ≡ x
+same_told {T} {E} {r} {e} {x} (y, is, same) h = sym same ∙ one_error (sym is ∙ h)
+  where
+    one_error : {a b : E} → (let q : Result T E = Err a in q ≡ Err b) → a ≡ b
+    one_error {a} {b} k = cc
+
+pub handed_on : {S T E : Type 0} {r : Result T E} {e x : E} → (y : E) × (r ≡ Err y) × (y ≡ e) → r ≡ Err x → (let q : Result S E = Err e in q ≡ Err x)
+handed_on {S} {T} {E} {r} {e} {x} told h = ap (λ (z : E). let q : Result S E = Err z in q) (same_told told h)
+
+pub ok_no_error : {T E : Type 0} {x : T} {e : E} → (let q : Result T E = Ok x in q ≡ Err e) → ⊥
+ok_no_error {T} {E} {x} {e} h = cc
+
+pub at_most : {a b c : ℕ} → a ≤ b → b ≤ c → a ≤ c
+at_most {a} {b} {c} p q = omega (arith, p, q)

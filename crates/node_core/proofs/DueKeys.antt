@@ -1,16 +1,16 @@
 -- All that is due, as its keys tell it.
-use Rattle.std.proofs.Common.{◌≡◌, ◌↔◌, ◌⊎◌, inl, inr, ℕ, zero, suc, ◌+◌, ◌++◌, ◌<◌, ◌≤◌, Bool, true, false, cond, Some, None, List, [], ◌∷◌, map, take, refl, sym, ap, subst, ◌∙◌, arith, Contains}
-use Rattle.std.specs.Prelude.{◌==◌, nat_lt, not, if◌then◌else◌, take_while, slice_get}
+use Rattle.std.proofs.Common.{◌≡◌, ◌↔◌, ◌⊎◌, inl, inr, ℕ, suc, ◌+◌, ◌++◌, ◌<◌, ◌≤◌, Bool, true, false, cond, Some, None, List, [], ◌∷◌, map, take, refl, sym, ap, subst, ◌∙◌, arith, Contains}
+use Rattle.std.specs.Prelude.{nat_lt, not, take_while, slice_get}
 use Rattle.std.specs.List.{All, AllByRecursion, prefix_len}
 use Rattle.std.specs.List.Sorted.{IsStrictlySortedBy}
 use Rattle.std.specs.Map.{keys_of}
 use Rattle.std.specs.BTreeMap.{BTreeMap, IsOrdered}
 use Rattle.std.specs.BTreeSet.{insert_key}
-use Rattle.std.specs.Ordering.{nat_cmp, ordering_then, is_gt}
+use Rattle.std.specs.Ordering.{nat_cmp, ordering_then, match_ordering, is_gt}
 use Rattle.std.specs.Cmp.{nat_cmp_is, ranked}
 use Rattle.std.specs.declared.cmp.Ordering.{Ordering}
 use Rattle.std.specs.declared.cmp.Ordering.TheVariants.{Less, Equal, Greater}
-use Rattle.std.proofs.lemmas.Bool.{cases_Bool, eqb-true, lt-ltb, ltb-true, ltb-false}
+use Rattle.std.proofs.lemmas.Bool.{cases_Bool, lt-ltb, ltb-true, ltb-false}
 use Rattle.std.proofs.lemmas.List.Elements.{All-contains}
 use Rattle.std.proofs.lemmas.Map.Lookups.{exact_unsigned}
 use Rattle.cs_base.specs.declared.ids.ReqId.{ReqId}
@@ -19,34 +19,61 @@ use Rattle.cs_base.proofs.Entries.{contains_insert_key}
 use Rattle.cs_base.proofs.Members.{contains_nil, contains_cases, contains_here, contains_there, contains_map, contains_from_map, contains_push}
 use Rattle.changes.proofs.Orderings.{then_equal}
 use Rattle.row_change.specs.declared.entry.Hint.{Hint}
-use Rattle.peer_messages.specs.declared.setting.Setting.{Setting}
 use Rattle.peer_messages.specs.Moves.{deadline_of}
 use Rattle.node_steps.specs.Hints.{KeptHints}
-use Rattle.node_steps.specs.Acts.{Act, DeadlineComes, HintExpires}
-use Rattle.node_steps.specs.Steps.{Due, AreAscending, IsDue, IsDeadline, IsExpiry, due_cmp, expiry_of}
+use Rattle.node_steps.specs.Steps.{Due, AreAscending, IsDue, IsDeadline, IsExpiry, due_cmp, expiry_of, kind_of}
 use Rattle.node_steps.proofs.Opened.{request_exact}
 use Rattle.hint_store.specs.declared.aging.Expired.{Expired}
 use Rattle.hint_store.specs.Expiry.{IsExpired, expired_of}
 use Rattle.node_core.specs.declared.base.Base.{Base}
+use Rattle.node_core.specs.declared.due.DueKind.{DueKind}
+use Rattle.node_core.specs.declared.due.DueKind.TheVariants.{Deadline, Expiry}
 use Rattle.node_core.specs.declared.due.DueKey.{DueKey}
 use Rattle.node_core.proofs.Slots.{some_one}
-use Rattle.node_core.specs.Due.{AreDueKeys, AreOwn, IsDeadlineKey, IsExpiryKey, deadline_key, due_by, expiry_key, is_due_at, key_cmp, waits_in}
+use Rattle.node_core.specs.Due.{AreDueKeys, AreOwn, IsDeadlineKey, IsExpiryKey, act_at, act_by, deadline_key, due_by, expiry_key, is_due_at, key_cmp, kind_number, waits_in}
 
 -- ---- keys in a set
 
-key_made : {a b : DueKey} → a.moment ≡ b.moment → a.request ≡ b.request → a.peer ≡ b.peer → a.number ≡ b.number → a ≡ b
-key_made {a} {b} moment request peer number =
-    ap (λ (n : ℕ). let k : DueKey = record { moment = n; request = a.request; peer = a.peer; number = a.number } in k) moment
-    ∙ ap (λ (r : ReqId). let k : DueKey = record { moment = b.moment; request = r; peer = a.peer; number = a.number } in k) request
-    ∙ ap (λ (n : ℕ). let k : DueKey = record { moment = b.moment; request = b.request; peer = n; number = a.number } in k) peer
-    ∙ ap (λ (n : ℕ). let k : DueKey = record { moment = b.moment; request = b.request; peer = b.peer; number = n } in k) number
+key_made : {a b : DueKey} → a.moment ≡ b.moment → a.request ≡ b.request → a.kind ≡ b.kind → a.peer ≡ b.peer → a.number ≡ b.number → a ≡ b
+key_made {a} {b} moment request kind peer number =
+    ap (λ (n : ℕ). let k : DueKey = record { moment = n; request = a.request; kind = a.kind; peer = a.peer; number = a.number } in k) moment
+    ∙ ap (λ (r : ReqId). let k : DueKey = record { moment = b.moment; request = r; kind = a.kind; peer = a.peer; number = a.number } in k) request
+    ∙ ap (λ (d : DueKind). let k : DueKey = record { moment = b.moment; request = b.request; kind = d; peer = a.peer; number = a.number } in k) kind
+    ∙ ap (λ (n : ℕ). let k : DueKey = record { moment = b.moment; request = b.request; kind = b.kind; peer = n; number = a.number } in k) peer
+    ∙ ap (λ (n : ℕ). let k : DueKey = record { moment = b.moment; request = b.request; kind = b.kind; peer = b.peer; number = n } in k) number
+
+kind_exact : (a b : DueKind) → kind_number a ≡ kind_number b → a ≡ b
+kind_exact Deadline Deadline e = refl
+kind_exact Deadline Expiry e = cc
+kind_exact Expiry Deadline e = cc
+kind_exact Expiry Expiry e = refl
 
 pub key_exact : (a b : DueKey) → key_cmp a b ≡ Equal → a ≡ b
 key_exact a b e =
     let one = then_equal (nat_cmp a.moment b.moment) _ e in
     let two = then_equal (request_cmp a.request b.request) _ one.1 in
-    let three = then_equal (nat_cmp a.peer b.peer) _ two.1 in
-    key_made (exact_unsigned a.moment b.moment one.0) (request_exact a.request b.request two.0) (exact_unsigned a.peer b.peer three.0) (exact_unsigned a.number b.number three.1)
+    let three = then_equal (nat_cmp (kind_number a.kind) (kind_number b.kind)) _ two.1 in
+    let four = then_equal (nat_cmp a.peer b.peer) _ three.1 in
+    let kind = kind_exact a.kind b.kind (exact_unsigned (kind_number a.kind) (kind_number b.kind) three.0) in
+    key_made (exact_unsigned a.moment b.moment one.0) (request_exact a.request b.request two.0) kind (exact_unsigned a.peer b.peer four.0) (exact_unsigned a.number b.number four.1)
+
+-- an order is that of the keys, where it is at each two kinds
+pub same_orders : (F : DueKey → DueKey → Ordering) → ((a b : DueKey) → F (record a { kind = Deadline }) (record b { kind = Deadline }) ≡ key_cmp (record a { kind = Deadline }) (record b { kind = Deadline }))
+    → ((a b : DueKey) → F (record a { kind = Deadline }) (record b { kind = Expiry }) ≡ key_cmp (record a { kind = Deadline }) (record b { kind = Expiry }))
+    → ((a b : DueKey) → F (record a { kind = Expiry }) (record b { kind = Deadline }) ≡ key_cmp (record a { kind = Expiry }) (record b { kind = Deadline }))
+    → ((a b : DueKey) → F (record a { kind = Expiry }) (record b { kind = Expiry }) ≡ key_cmp (record a { kind = Expiry }) (record b { kind = Expiry })) → (a b : DueKey) → F a b ≡ key_cmp a b
+same_orders F dd de ed ee a b = at a.kind b.kind a b
+  where
+    at : (d e : DueKind) (a b : DueKey) → F (record a { kind = d }) (record b { kind = e }) ≡ key_cmp (record a { kind = d }) (record b { kind = e })
+    at Deadline Deadline a b = dd a b
+    at Deadline Expiry a b = de a b
+    at Expiry Deadline a b = ed a b
+    at Expiry Expiry a b = ee a b
+
+pub put_as : (F : DueKey → DueKey → Ordering) (ks : List DueKey) (k : DueKey) → ((x : DueKey) → F k x ≡ key_cmp k x) → insert_key F ks k ≡ insert_key key_cmp ks k
+put_as F [] k same = refl
+put_as F (x ∷ xs) k same =
+    ap (λ (o : Ordering). match_ordering o (k ∷ x ∷ xs) (x ∷ xs) (x ∷ insert_key F xs k)) (same x) ∙ ap (λ (ys : List DueKey). match_ordering (key_cmp k x) (k ∷ x ∷ xs) (x ∷ xs) (x ∷ ys)) (put_as F xs k same)
 
 pub put_key : (ks : List DueKey) (k x : DueKey) → Contains (insert_key key_cmp ks k) x ↔ ((x ≡ k) ⊎ Contains ks x)
 put_key ks k x = contains_insert_key key_cmp key_exact ks k x
@@ -77,10 +104,6 @@ deadlines_more old ks ids id so_far k =
     )
 
 -- ---- the ends of some hints
-
-pub above_zero : (n : ℕ) → (n ≡ 0 → ⊥) → 0 < n
-above_zero zero is = absurd (is refl)
-above_zero (suc n) is = omega arith
 
 pub expiries_none : (me expiry : ℕ) (ks : List DueKey) (k : DueKey) → Contains ks k ↔ (Contains ks k ⊎ IsExpiryKey me expiry [] k)
 expiries_none me expiry ks k = (λ h. inl h, λ h. elim h [ inl there ↦ there | inr d ↦ absurd (contains_nil d.expired d.there) ])
@@ -251,29 +274,30 @@ nothing_due b k time writes reads expired = record {
 
 -- ---- all that is due
 
+kind_at : (kind : DueKind) (request : ReqId) (peer number : ℕ) → kind_of (act_at kind request peer number) ≡ kind_number kind
+kind_at Deadline request peer number = refl
+kind_at Expiry request peer number = refl
+
+-- what is due comes in the order of its keys
+same_order : (a b : DueKey) → due_cmp (due_by a) (due_by b) ≡ key_cmp a b
+same_order a b =
+    ap (λ (n : ℕ). ordering_then (nat_cmp a.moment b.moment) (ordering_then (request_cmp a.request b.request) (ordering_then (nat_cmp n (kind_of (act_by b))) (ordering_then (nat_cmp a.peer b.peer) (nat_cmp a.number b.number)))))
+    (kind_at a.kind a.request a.peer a.number)
+    ∙ ap (λ (n : ℕ). ordering_then (nat_cmp a.moment b.moment) (ordering_then (request_cmp a.request b.request) (ordering_then (nat_cmp (kind_number a.kind) n) (ordering_then (nat_cmp a.peer b.peer) (nat_cmp a.number b.number)))))
+    (kind_at b.kind b.request b.peer b.number)
+
 ascend : (ks : List DueKey) → IsStrictlySortedBy key_cmp ks → AreAscending (map due_by ks)
 unfolding IsStrictlySortedBy
 ascend [] sorted = tt
 ascend (k ∷ ks) sorted = (λ e there. above e (contains_from_map due_by ks e there), ascend ks sorted.1)
   where
     above : (e : Due) → (x : DueKey) × Contains ks x × (due_by x ≡ e) → due_cmp (due_by k) e ≡ Less
-    above e (x, there, is) = ap (λ (d : Due). due_cmp (due_by k) d) (sym is) ∙ all_in (λ (y : DueKey). key_cmp k y ≡ Less) ks x sorted.0 there
-
--- a hint that is due, by its key
-hint_act : (b : Bool) (request : ReqId) (peer number : ℕ) → (number == 0) ≡ b → 0 < number → (if b then DeadlineComes request else HintExpires peer number) ≡ HintExpires peer number
-hint_act true request peer number is above = let none = eqb-true number 0 is in absurd (omega arith)
-hint_act false request peer number is above = refl
-
-pub expiry_due : (c : Setting) (me : ℕ) (h : Hint) → 0 < h.number → due_by (expiry_key me c.expiry (expired_of h)) ≡ expiry_of c me h
-expiry_due c me h above =
-    ap (λ (a : Act). let d : Due = record { moment = h.born + c.expiry + 1; request = record { node = me; time = h.born }; peer = h.peer; number = h.number; act = a } in d)
-    (hint_act (h.number == 0) (record { node = me; time = h.born }) h.peer h.number refl above)
+    above e (x, there, is) = ap (λ (d : Due). due_cmp (due_by k) d) (sym is) ∙ same_order k x ∙ all_in (λ (y : DueKey). key_cmp k y ≡ Less) ks x sorted.0 there
 
 pub record Found (b : Base) (k : KeptHints) (time : ℕ) (ws rs : List ReqId) (xs : List Expired) (keys : List DueKey) : Type 0 where
   pub writes : (id : ReqId) → Contains ws id ↔ (Contains (keys_of b.writes.entries) id × (is_due_at time id ≡ true))
   pub reads : (id : ReqId) → Contains rs id ↔ (Contains (keys_of b.reads.entries) id × (is_due_at time id ≡ true))
   pub expired : (x : Expired) → Contains xs x ↔ ((h : Hint) × Contains k.hints h × IsExpired b.setting.expiry time h × (x ≡ expired_of h))
-  pub numbers : (x : Expired) → Contains xs x → 0 < x.number
   pub keys_are : (d : DueKey) → Contains keys d ↔ (IsDeadlineKey ws d ⊎ IsDeadlineKey rs d ⊎ IsExpiryKey b.me b.setting.expiry xs d)
   pub ordered : IsStrictlySortedBy key_cmp keys
 
@@ -299,10 +323,9 @@ Due_in b k time d = (d.moment ≤ time) × (IsDeadline (waits_in b k) d ⊎ IsEx
 deadline_is_due : (b : Base) (k : KeptHints) (time : ℕ) (id : ReqId) → Contains (keys_of b.writes.entries) id ⊎ Contains (keys_of b.reads.entries) id → is_due_at time id ≡ true → Due_in b k time (due_by (deadline_key id))
 deadline_is_due b k time id open' is = (due_by_time time id is, inl (open', refl))
 
-hint_is_due : (b : Base) (k : KeptHints) (time : ℕ) (x : Expired) → 0 < x.number → ((h : Hint) × Contains k.hints h × IsExpired b.setting.expiry time h × (x ≡ expired_of h)) → Due_in b k time (due_by (expiry_key b.me b.setting.expiry x))
-hint_is_due b k time x above (h, there, old, is) =
-    let number : 0 < h.number = subst (λ (y : Expired). 0 < y.number) is above in
-    let same : due_by (expiry_key b.me b.setting.expiry x) ≡ expiry_of b.setting b.me h = ap (λ (y : Expired). due_by (expiry_key b.me b.setting.expiry y)) is ∙ expiry_due b.setting b.me h number in
+hint_is_due : (b : Base) (k : KeptHints) (time : ℕ) (x : Expired) → ((h : Hint) × Contains k.hints h × IsExpired b.setting.expiry time h × (x ≡ expired_of h)) → Due_in b k time (due_by (expiry_key b.me b.setting.expiry x))
+hint_is_due b k time x (h, there, old, is) =
+    let same : due_by (expiry_key b.me b.setting.expiry x) ≡ expiry_of b.setting b.me h = ap (λ (y : Expired). due_by (expiry_key b.me b.setting.expiry y)) is in
     subst (λ (d : Due). Due_in b k time d) (sym same) (old, inr (h, there, refl))
 
 key_is_due : (b : Base) (k : KeptHints) (time : ℕ) (ws rs : List ReqId) (xs : List Expired) (keys : List DueKey) → Found b k time ws rs xs keys → (d : DueKey) → IsDeadlineKey ws d ⊎ IsDeadlineKey rs d ⊎ IsExpiryKey b.me b.setting.expiry xs d → Due_in b k time (due_by d)
@@ -311,7 +334,7 @@ key_is_due b k time ws rs xs keys f d (inl w) =
 key_is_due b k time ws rs xs keys f d (inr (inl r)) =
     let at = (f.reads d.request).0 r.there in subst (λ (x : DueKey). Due_in b k time (due_by x)) (sym r.key) (deadline_is_due b k time d.request (inr at.0) at.1)
 key_is_due b k time ws rs xs keys f d (inr (inr e)) =
-    subst (λ (x : DueKey). Due_in b k time (due_by x)) (sym e.key) (hint_is_due b k time e.expired (f.numbers e.expired e.there) ((f.expired e.expired).0 e.there))
+    subst (λ (x : DueKey). Due_in b k time (due_by x)) (sym e.key) (hint_is_due b k time e.expired ((f.expired e.expired).0 e.there))
 
 due_has_key : (b : Base) (k : KeptHints) (time : ℕ) (ws rs : List ReqId) (xs : List Expired) (keys : List DueKey) → Found b k time ws rs xs keys → (d : Due) → d.moment ≤ time → IsDeadline (waits_in b k) d ⊎ IsExpiry b.setting b.me (waits_in b k) d
     → Contains (map due_by keys) d
@@ -327,9 +350,8 @@ due_has_key b k time ws rs xs keys f d le (inr (h, in_it, is)) =
     let at = ap (λ (x : Due). x.moment) is in
     let old : IsExpired b.setting.expiry time h = omega arith in
     let listed : Contains xs (expired_of h) = (f.expired (expired_of h)).1 (h, in_it, old, refl) in
-    let above = f.numbers (expired_of h) listed in
     let there : Contains keys (expiry_key b.me b.setting.expiry (expired_of h)) = (f.keys_are (expiry_key b.me b.setting.expiry (expired_of h))).1 (inr (inr (record { expired = expired_of h; there = listed; key = refl }))) in
-    subst (λ (x : Due). Contains (map due_by keys) x) (expiry_due b.setting b.me h above ∙ sym is) (contains_map due_by keys (expiry_key b.me b.setting.expiry (expired_of h)) there)
+    subst (λ (x : Due). Contains (map due_by keys) x) (sym is) (contains_map due_by keys (expiry_key b.me b.setting.expiry (expired_of h)) there)
 
 pub all_due : (b : Base) (k : KeptHints) (time : ℕ) (ws rs : List ReqId) (xs : List Expired) (keys : List DueKey) → Found b k time ws rs xs keys → AreDueKeys b k time keys
 all_due b k time ws rs xs keys f = record {

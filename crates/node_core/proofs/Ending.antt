@@ -33,24 +33,24 @@ with_hints m h = record m { hints = h }
 pub same_core : (m : Memory) (h : Staged) → h.before ≡ m.hints.before → core_of (with_hints m h) ≡ core_of m
 same_core m h is = ap (λ (k : KeptHints). let n : Core = record (core_of m) { kept = kept_with k m.kept } in n) is
 
-pub held_with : (m : Memory) (h : Staged) → HoldsCore m → HoldsCore (with_hints m h)
-held_with m h held = record { holding = held.holding; writes = held.writes; reads = held.reads; bare = held.bare }
+pub held_with : (m : Memory) (h : Staged) (y : Made) → HoldsCore m → HoldsCore (record m { hints = h; made = y })
+held_with m h y held = record { holding = held.holding; writes = held.writes; reads = held.reads; bare = held.bare }
 
 -- ---- a step begins
 
-pub begun_about : (m : Memory) (t : ℕ) (e : Event) (x : Begun) → IsBegun m t e x → IsAbout m.base.me x.made.work.time x.what x.made.work.request
+pub begun_about : (m : Memory) (t : ℕ) (e : Event) (x : Begun) → IsBegun m.base m.time m.kept.ceiling t e x → IsAbout m.base.me x.made.work.time x.what x.made.work.request
 begun_about m t e x b = subst (λ (u : ℕ). IsAbout m.base.me u x.what x.made.work.request) (sym b.time) b.about
 
-pub begun_later : (m : Memory) (t : ℕ) (e : Event) (x : Begun) → IsBegun m t e x → t ≡ risen_time m.time e → m.time < x.made.work.time
+pub begun_later : (m : Memory) (t : ℕ) (e : Event) (x : Begun) → IsBegun m.base m.time m.kept.ceiling t e x → t ≡ risen_time m.time e → m.time < x.made.work.time
 begun_later m t e x b at = let later = rises m e in let time = b.time in omega arith
 
-pub begun_new : (m : Memory) (t : ℕ) (e : Event) (x : Begun) → IsBegun m t e x → t ≡ risen_time m.time e → HoldsCore m → IsNewTo m.base x.made.work.time
+pub begun_new : (m : Memory) (t : ℕ) (e : Event) (x : Begun) → IsBegun m.base m.time m.kept.ceiling t e x → t ≡ risen_time m.time e → HoldsCore m → IsNewTo m.base x.made.work.time
 begun_new m t e x b at held = held_new m x.made.work.time (begun_later m t e x b at) held
 
-pub begun_within : (m : Memory) (t : ℕ) (e : Event) (x : Begun) → IsBegun m t e x → t ≤ end_of_time → x.made.work.time < 2 ^ 63
+pub begun_within : (m : Memory) (t : ℕ) (e : Event) (x : Begun) → IsBegun m.base m.time m.kept.ceiling t e x → t ≤ end_of_time → x.made.work.time < 2 ^ 63
 begun_within m t e x b within = let time = b.time in omega arith
 
-pub begun_started : (m : Memory) (t : ℕ) (e : Event) (x : Begun) → IsBegun m t e x → t ≡ risen_time m.time e → x.made.started ≡ started_by m.base.me (risen_time m.time e) e.what
+pub begun_started : (m : Memory) (t : ℕ) (e : Event) (x : Begun) → IsBegun m.base m.time m.kept.ceiling t e x → t ≡ risen_time m.time e → x.made.started ≡ started_by m.base.me (risen_time m.time e) e.what
 begun_started m t e x b at = b.started ∙ ap (λ (u : ℕ). started_by m.base.me u e.what) at
 
 pub lost_as : (started : Option ReqId) (entries : List Entry) (k l : Lost) → (let r : Told = Err (Failed k) in IsErrOf r (Failed l)) → IsLost started entries k → IsLost started entries l

@@ -1,11 +1,15 @@
 mod Ordered
+mod Longer
 mod Sending
 mod Slots
 mod LeftOpen
 mod DueKeys
+mod Timeouts
+mod DueMatters
 mod Passing
 mod Hinting
 mod Asking
+mod Mending
 mod Bodies
 mod Reading
 mod Coming

@@ -1,5 +1,5 @@
 -- What a node holds that was loaded.
-use Rattle.std.proofs.Common.{ℕ, List, sym, ap, subst, ◌∙◌, Contains}
+use Rattle.std.proofs.Common.{◌≡◌, ℕ, List, Result, Err, sym, ap, subst, ◌∙◌, Contains}
 use Rattle.cs_base.specs.declared.ids.ReqId.{ReqId}
 use Rattle.cs_base.proofs.Members.{contains_nil}
 use Rattle.stored_changes.specs.Spelling.{MutationFits}
@@ -12,6 +12,8 @@ use Rattle.node_steps.specs.Holding.{HoldsFit}
 use Rattle.node_steps.specs.Laws.{MutationsAreTested}
 use Rattle.hint_store.specs.Staged.{IsSameHints}
 use Rattle.hint_store.proofs.Same.{same_member}
+use Rattle.replica.specs.declared.error.LoadError.{LoadError}
+use Rattle.replica.specs.declared.error.LoadError.TheVariants as load_error
 use Rattle.replica.specs.declared.kept.Kept.{Kept}
 use Rattle.replica.specs.Kept.{IsKeptOf}
 use Rattle.node_core.specs.Memory.{IsLoaded}
@@ -39,3 +41,11 @@ loaded_fit me c kept n d l tied tested fit =
       writes = λ id w there. absurd (contains_nil (id, w) (subst (λ (ws : List (ReqId × OpenWrite)). Contains ws (id, w)) (ap (λ (m : Core). m.writes) l.core) there));
       hints = λ h there. (tested h.mutation).1 (fit h ((same_member (told_hints kept) all same h).0 there));
     }
+
+-- ---- why a node was not loaded
+
+pub no_memory_failed : {T D : Type 0} {d s : D} → (let r : Result T (LoadError D) = Err (load_error.NoMemory d) in r ≡ Err (load_error.Failed s)) → ⊥
+no_memory_failed {T} {D} {d} {s} told = cc
+
+pub no_memory_damaged : {T D : Type 0} {d s : D} {f p : ℕ} → (let r : Result T (LoadError D) = Err (load_error.NoMemory d) in r ≡ Err (load_error.Damaged s f p)) → ⊥
+no_memory_damaged {T} {D} {d} {s} {f} {p} told = cc

@@ -19,16 +19,16 @@ failed_room l e = cc
 large_room : (p : Partition) → TooLarge p ≡ NoRoom → ⊥
 large_room p e = cc
 
-memory_room : NoMemory ≡ NoRoom → ⊥
+pub memory_room : NoMemory ≡ NoRoom → ⊥
 memory_room e = cc
 
 failed_large : (l : Lost) (p : Partition) → Failed l ≡ TooLarge p → ⊥
 failed_large l p e = cc
 
-memory_large : (p : Partition) → NoMemory ≡ TooLarge p → ⊥
+pub memory_large : (p : Partition) → NoMemory ≡ TooLarge p → ⊥
 memory_large p e = cc
 
-failed_memory : (l : Lost) → Failed l ≡ NoMemory → ⊥
+pub failed_memory : (l : Lost) → Failed l ≡ NoMemory → ⊥
 failed_memory l e = cc
 
 one_large : (p q : Partition) → TooLarge p ≡ TooLarge q → p ≡ q
@@ -39,6 +39,9 @@ one_lost k l e = cc
 
 room_errors : room_error.NoMemory ≡ room_error.Failed → ⊥
 room_errors e = cc
+
+told_room : (a b : RoomError) → (let r : Result ℕ RoomError = Err a in IsErrOf r b) → a ≡ b
+told_room a b h = cc
 
 pub call_failed : (e : CallError) (told : RoomError) → (e ≡ call_error.NoMemory → told ≡ room_error.NoMemory) → (let r : Result ℕ RoomError = Err told in IsErrOf r room_error.Failed) → e ≡ call_error.Failed
 call_failed call_error.Failed told no_memory failed = refl
@@ -82,3 +85,37 @@ fine {T} started entries e told is fine_on h = fine_by started entries e told is
     fine_by started entries (room_error.TooLarge p) told tells on x = cc
     fine_by started entries room_error.NoRoom told tells on x = cc
     fine_by started entries room_error.NoMemory told tells on x = cc
+
+pub unit_error_of : (a b : RoomError) → (let r : Result Unit RoomError = Err a in IsErrOf r b) → a ≡ b
+unit_error_of a b h = cc
+
+pub call_error_of : (a b : CallError) → (let r : Result ℕ CallError = Err a in IsErrOf r b) → a ≡ b
+call_error_of a b h = cc
+
+pub call_errors : call_error.NoMemory ≡ call_error.Failed → ⊥
+call_errors e = cc
+
+-- a call that failed, or that lacked memory, tells of no room
+pub call_memory : (e : CallError) (told : RoomError) → (e ≡ call_error.Failed → told ≡ room_error.Failed) → ((let r : Result ℕ RoomError = Err told in IsErrOf r room_error.Failed) → ⊥) → e ≡ call_error.NoMemory
+call_memory call_error.Failed told failed fine = absurd (fine (ap (λ (x : RoomError). let r : Result ℕ RoomError = Err x in r) (failed refl)))
+call_memory call_error.NoMemory told failed fine = refl
+
+pub call_told : (e : CallError) (told x : RoomError) → (e ≡ call_error.Failed → told ≡ room_error.Failed) → (e ≡ call_error.NoMemory → told ≡ room_error.NoMemory) → (room_error.Failed ≡ x → ⊥) → (room_error.NoMemory ≡ x → ⊥)
+    → (let r : Result ℕ RoomError = Err told in IsErrOf r x) → ⊥
+call_told call_error.Failed told x failed no_memory not_failed not_memory h = not_failed (sym (failed refl) ∙ told_room told x h)
+call_told call_error.NoMemory told x failed no_memory not_failed not_memory h = not_memory (sym (no_memory refl) ∙ told_room told x h)
+
+pub failed_no_room : room_error.Failed ≡ room_error.NoRoom → ⊥
+failed_no_room e = cc
+
+pub failed_not_large : (p : Partition) → room_error.Failed ≡ room_error.TooLarge p → ⊥
+failed_not_large p e = cc
+
+pub memory_not_failed : room_error.NoMemory ≡ room_error.Failed → ⊥
+memory_not_failed e = cc
+
+pub memory_no_room : room_error.NoMemory ≡ room_error.NoRoom → ⊥
+memory_no_room e = cc
+
+pub memory_not_large : (p : Partition) → room_error.NoMemory ≡ room_error.TooLarge p → ⊥
+memory_not_large p e = cc

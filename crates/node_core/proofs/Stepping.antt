@@ -182,7 +182,7 @@ with_work y w = record y { work = w }
 same_tied : (m : Memory) (d : Durable) → IsKeptOf d (core_of m).kept → m.hints.now ≡ m.hints.before → IsSameHints (hints_in (before m d)) m.hints.now
 same_tied m d tied settled = subst (λ (k : KeptHints). IsSameHints (hints_in (before m d)) k) (sym settled) (record { hints = tied.hints; numbers = tied.numbers })
 
-begins : (m : Memory) (d : Durable) (e : Event) (t : ℕ) (x : Begun) (left : List Act) → t ≡ risen_time m.time e → IsBegun m t e x → IsKeptOf d (core_of m).kept → m.hints.now ≡ m.hints.before
+begins : (m : Memory) (d : Durable) (e : Event) (t : ℕ) (x : Begun) (left : List Act) → t ≡ risen_time m.time e → IsBegun m.base m.time m.kept.ceiling t e x → IsKeptOf d (core_of m).kept → m.hints.now ≡ m.hints.before
     → HasCome m.base d (before m d) (Rises (risen_time m.time e) ∷ left) left [] (at x.made.work m.hints.now)
 begins m d e t x left at_time b tied settled =
     begun_come m d x.made.work (risen_time m.time e) left m.hints.now b.fresh (rises m e) (b.time ∙ at_time)
@@ -192,19 +192,19 @@ begins m d e t x left at_time b tied settled =
 abbrev of_what : Memory → What → List Act
 of_what m what = matter_of m.base.setting m.base.me what
 
-due_come : (m : Memory) (d : Durable) (e : Event) (t : ℕ) (x : Begun) (keys : List DueKey) → t ≡ risen_time m.time e → IsBegun m t e x → IsKeptOf d (core_of m).kept → m.hints.now ≡ m.hints.before
+due_come : (m : Memory) (d : Durable) (e : Event) (t : ℕ) (x : Begun) (keys : List DueKey) → t ≡ risen_time m.time e → IsBegun m.base m.time m.kept.ceiling t e x → IsKeptOf d (core_of m).kept → m.hints.now ≡ m.hints.before
     → HasCome m.base d (before m d) (all_matters m e (map due_by keys)) (map act_by keys ++ of_what m x.what) [] (at x.made.work m.hints.now)
 due_come m d e t x keys at_time b tied settled =
     let first : HasCome m.base d (before m d) (all_matters m e (map due_by keys)) (map act_of (map due_by keys) ++ matters_of m e) [] (at x.made.work m.hints.now) = begins m d e t x (map act_of (map due_by keys) ++ matters_of m e) at_time b tied settled in
     subst (λ (acts : List Act). HasCome m.base d (before m d) (all_matters m e (map due_by keys)) acts [] (at x.made.work m.hints.now))
     (ap (λ (acts : List Act). acts ++ matters_of m e) (acts_are keys) ∙ ap (λ (what : What). map act_by keys ++ of_what m what) (sym b.what)) first
 
-due_at : (m : Memory) (d : Durable) (e : Event) (t : ℕ) (x : Begun) (keys : List DueKey) → t ≡ risen_time m.time e → IsBegun m t e x → IsKeptOf d (core_of m).kept → m.hints.now ≡ m.hints.before → AreDueKeys m.base m.hints.now x.made.work.time keys
+due_at : (m : Memory) (d : Durable) (e : Event) (t : ℕ) (x : Begun) (keys : List DueKey) → t ≡ risen_time m.time e → IsBegun m.base m.time m.kept.ceiling t e x → IsKeptOf d (core_of m).kept → m.hints.now ≡ m.hints.before → AreDueKeys m.base m.hints.now x.made.work.time keys
     → AreDue m.base.setting m.base.me (risen_time m.time e) (before m d) (map due_by keys)
 due_at m d e t x keys at_time b tied settled are =
     due_before m d m.hints.now (risen_time m.time e) keys (same_tied m d tied settled) (subst (λ (u : ℕ). AreDueKeys m.base m.hints.now u keys) (b.time ∙ at_time) are)
 
-pub ready : (m : Memory) (d : Durable) (e : Event) (t : ℕ) (x : Begun) (honest : Type 0) (w : Work) (k : KeptHints) → t ≡ risen_time m.time e → IsBegun m t e x → WorksOut m.base honest d x.what (at x.made.work m.hints.now) (at w k) → honest → IsKeptOf d (core_of m).kept
+pub ready : (m : Memory) (d : Durable) (e : Event) (t : ℕ) (x : Begun) (honest : Type 0) (w : Work) (k : KeptHints) → t ≡ risen_time m.time e → IsBegun m.base m.time m.kept.ceiling t e x → WorksOut m.base honest d x.what (at x.made.work m.hints.now) (at w k) → honest → IsKeptOf d (core_of m).kept
     → m.hints.now ≡ m.hints.before → IsReady m d e (with_work x.made w) k
 ready m d e t x honest w k at_time b works is tied settled =
     let keys = works.due.keys in
@@ -222,7 +222,7 @@ ready m d e t x honest w k at_time b works is tied settled =
       ceiling = tied.ceiling;
     }
 
-pub cut_at : (m : Memory) (d : Durable) (e : Event) (t : ℕ) (x : Begun) (w : Work) → t ≡ risen_time m.time e → IsBegun m t e x → CutsOff m.base d x.what (at x.made.work m.hints.now) w → IsKeptOf d (core_of m).kept → m.hints.now ≡ m.hints.before → IsCutIn m d e w
+pub cut_at : (m : Memory) (d : Durable) (e : Event) (t : ℕ) (x : Begun) (w : Work) → t ≡ risen_time m.time e → IsBegun m.base m.time m.kept.ceiling t e x → CutsOff m.base d x.what (at x.made.work m.hints.now) w → IsKeptOf d (core_of m).kept → m.hints.now ≡ m.hints.before → IsCutIn m d e w
 cut_at m d e t x w at_time b off tied settled =
     let keys = off.due.keys in
     record {

@@ -4,8 +4,9 @@ use Rattle.cs_base.specs.declared.ids.ReqId.{ReqId}
 use Rattle.durable_state.specs.State.{Durable}
 use Rattle.node_steps.specs.State.{OpenWrite, OpenRead}
 use Rattle.node_steps.specs.Writes.{write_told, unheard}
-use Rattle.node_steps.specs.Reads.{read_timeout, replies_of, read_needs}
+use Rattle.node_steps.specs.Reads.{timeout_of}
 use Rattle.node_core.specs.declared.base.Base.{Base}
+use Rattle.node_core.specs.declared.due.DueKind.TheVariants.{Deadline}
 use Rattle.node_core.specs.declared.due.DueKey.{DueKey}
 use Rattle.node_core.specs.declared.work.Given.{Given}
 use Rattle.node_core.specs.declared.work.Work.{Work}
@@ -28,7 +29,7 @@ pub record EndsWrite (b : Base) (id : ReqId) (o : OpenWrite) (x : Stage) (g : Gi
 -- the read is told so, and ends
 pub record EndsRead (b : Base) (id : ReqId) (r : OpenRead) (w : Work) (g : Given) (w' : Work) : Type 0 where
   pub sends : g.sends ≡ []
-  pub entries : g.entries ≡ (read_timeout id (replies_of b.setting r) (read_needs b.setting r)).entries
+  pub entries : g.entries ≡ (timeout_of b.setting id r).entries
   pub ends : w' ≡ record w { ended_reads = w.ended_reads ++ id ∷ []; open_reads = w.open_reads - 1 }
 
 abbrev pub EndsRequest : Base → ReqId → Option OpenWrite → Option OpenRead → Stage → Given → Stage → Type 0
@@ -44,11 +45,11 @@ pub record IsNext (id : ReqId) (w : Work) : Type 0 where
 -- ---- what is due
 
 abbrev pub IsNextDue : DueKey → Work → Type 0
-IsNextDue k w = k.number ≡ 0 → IsNext k.request w
+IsNextDue k w = k.kind ≡ Deadline → IsNext k.request w
 
 -- of these requests each was there before, or its deadline is this
 abbrev pub EndedBy : DueKey → List ReqId → List ReqId → Type 0
-EndedBy k ids ids' = (e : ReqId) → Contains ids' e → Contains ids e ⊎ ((k.number ≡ 0) × (e ≡ k.request))
+EndedBy k ids ids' = (e : ReqId) → Contains ids' e → Contains ids e ⊎ ((k.kind ≡ Deadline) × (e ≡ k.request))
 
 pub record EndsDue (b : Base) (k : DueKey) (x x' : Stage) : Type 0 where
   pub one : (d : Durable) → EndsOne b d x (act_by k) x'

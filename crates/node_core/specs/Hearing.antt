@@ -7,8 +7,8 @@ use Rattle.peer_messages.specs.declared.setting.Setting.{Setting}
 use Rattle.node_steps.specs.State.{OpenWrite, OpenRead}
 use Rattle.node_steps.specs.Effects.{open_at, after_move, effects_of, AtRequest}
 use Rattle.node_steps.specs.Writes.{HearsAck}
-use Rattle.node_steps.specs.Reads.{HearsReply}
-use Rattle.read_coord.specs.Keeping.{is_last}
+use Rattle.node_steps.specs.Reads.{HearsReply, HearsMendAck}
+use Rattle.read_coord.specs.Keeping.{ends}
 use Rattle.node_core.specs.declared.slot.Found.{Found}
 use Rattle.node_core.specs.declared.slot.Slot.{Slot}
 use Rattle.node_core.specs.declared.slot.Slot.TheVariants.{Untouched}
@@ -27,11 +27,11 @@ abbrev pub IsOpened : {A : Type 0} → ReqId → List (ReqId × A) → Slot A �
 IsOpened {A} id xs slot None slot' = (open_at (with_slot id slot xs) id ≡ None) × (slot' ≡ slot)
 IsOpened {A} id xs slot (Some f) slot' = Opens id xs slot f
 
--- the step has not touched the open read, and the node's reply is the last that it waits for
-pub record IsLastOpen (c : Setting) (id : ReqId) (from : ℕ) (xs : List (ReqId × OpenRead)) (slot : Slot OpenRead) (r : OpenRead) : Type 0 where
+-- the step has not touched the open read, and the node's reply of this content ends it
+pub record IsLastOpen (c : Setting) (id : ReqId) (from : ℕ) (content : List Held) (xs : List (ReqId × OpenRead)) (slot : Slot OpenRead) (r : OpenRead) : Type 0 where
   pub untouched : slot ≡ Untouched
   pub there : open_at xs id ≡ Some r
-  pub last : is_last c from r ≡ true
+  pub last : ends c from content r ≡ true
 
 -- the open request takes a move that gives this
 pub record Moves {A : Type 0} (Step : A → Move → A → Type 0) (id : ReqId) (xs : List (ReqId × A)) (slot : Slot A) (g : Given) (slot' : Slot A) : Type 0 where
@@ -46,3 +46,6 @@ AckMoves c id from xs slot g slot' = Moves (HearsAck c id from) id xs slot g slo
 
 abbrev pub ReplyMoves : Setting → ReqId → ℕ → List Held → List (ReqId × OpenRead) → Slot OpenRead → Given → Slot OpenRead → Type 0
 ReplyMoves c id from content xs slot g slot' = Moves (HearsReply c id from content) id xs slot g slot'
+
+abbrev pub MendMoves : Setting → ReqId → ℕ → List (ReqId × OpenRead) → Slot OpenRead → Given → Slot OpenRead → Type 0
+MendMoves c id from xs slot g slot' = Moves (HearsMendAck c id from) id xs slot g slot'

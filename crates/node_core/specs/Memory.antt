@@ -77,15 +77,15 @@ pub record Begun : Type 0 where
   pub what : What
   pub made : Made
 
--- the node takes the event at this time, and has made nothing of it yet
-pub record IsBegun (m : Memory) (t : ℕ) (e : Event) (x : Begun) : Type 0 where
-  pub what : x.what ≡ looked_at m.time e
-  pub fresh : IsFresh m.base x.made.work
+-- the node, whose time and ceiling were these, takes the event at this time, and has made nothing of it yet
+pub record IsBegun (b : Base) (was under t : ℕ) (e : Event) (x : Begun) : Type 0 where
+  pub what : x.what ≡ looked_at was e
+  pub fresh : IsFresh b x.made.work
   pub time : x.made.work.time ≡ t
-  pub ceiling : x.made.work.ceiling ≡ ceiling_after m.kept.ceiling t
-  pub about : IsAbout m.base.me t x.what x.made.work.request
-  pub started : x.made.started ≡ started_by m.base.me t e.what
-  pub refused : x.made.refused ≡ is_refused m.base.setting m.time t e e.what
+  pub ceiling : x.made.work.ceiling ≡ ceiling_after under t
+  pub about : IsAbout b.me t x.what x.made.work.request
+  pub started : x.made.started ≡ started_by b.me t e.what
+  pub refused : x.made.refused ≡ is_refused b.setting was t e e.what
   pub flushes : x.made.flushes ≡ is_flush e.what
 
 -- ---- what is due is taken, and then the event's own matter

@@ -9,6 +9,7 @@ use Rattle.changes.specs.declared.Held.{Held}
 use Rattle.changes.specs.declared.Mutation.{Mutation}
 use Rattle.changes.specs.declared.Query.{Query}
 use Rattle.cs_store.specs.Disk.{Disk}
+use Rattle.stored_changes.specs.Spelling.{MutationFits}
 use Rattle.row_change.specs.declared.entry.Hint as hint
 use Rattle.row_change.specs.declared.entry.LogItem.{LogItem}
 use Rattle.row_change.specs.declared.entry.LogItem.TheVariants.{Data}
@@ -17,12 +18,13 @@ use Rattle.peer_messages.specs.declared.event.Ask.{Ask}
 use Rattle.peer_messages.specs.declared.event.What.{What}
 use Rattle.peer_messages.specs.declared.event.What.TheVariants.{Client, Deliver, Alive, Collect, Flush, Tick}
 use Rattle.peer_messages.specs.declared.message.Body.{Body}
-use Rattle.peer_messages.specs.declared.message.Body.TheVariants.{Write, WriteAck, Read, ReadReply, Hint, HintAck}
+use Rattle.peer_messages.specs.declared.message.Body.TheVariants.{Write, WriteAck, Read, ReadReply, Mend, MendAck, Hint, HintAck}
 use Rattle.peer_messages.specs.declared.outcome.Outbound.{Outbound}
 use Rattle.peer_messages.specs.Settings.{marked}
 use Rattle.durable_state.specs.State.{Durable, changes_of}
 use Rattle.durable_state.specs.Taking.{TakesIn}
 use Rattle.durable_state.specs.Keeping.{Commits}
+use Rattle.node_steps.specs.Fitting.{write_fits}
 use Rattle.node_steps.specs.State.{NodeState, OpenWrite, OpenRead, loaded}
 use Rattle.node_steps.specs.Effects.{Effects}
 use Rattle.node_steps.specs.Hints.{KeptHints}
@@ -42,7 +44,7 @@ use Rattle.node_core.specs.declared.work.Given.{Given}
 use Rattle.node_core.specs.declared.work.Work.{Work}
 use Rattle.node_core.specs.Asking.{IsUnmoved}
 use Rattle.node_core.specs.Due.{AreDueKeys, AreOwn, act_by}
-use Rattle.node_core.specs.Hearing.{AckMoves, ReplyMoves}
+use Rattle.node_core.specs.Hearing.{AckMoves, ReplyMoves, MendMoves}
 use Rattle.node_core.specs.Hinting.{Stage, at, SendsFirst, HearsHintAck}
 use Rattle.node_core.specs.Leading.{Leads}
 use Rattle.node_core.specs.Working.{Heard, forgotten_in, left_open, effects_given, own_acts, heard_act, own_sent, weight_of, weight, IsOwn, IsPlain, IsDataAt, IsSent, IsSound, FitWrites}
@@ -114,6 +116,8 @@ IsReadFor items d (Read q) part = (p : List Held) × (part ≡ Some p) × Answer
 IsReadFor items d (Write m) part = part ≡ None
 IsReadFor items d WriteAck part = part ≡ None
 IsReadFor items d (ReadReply content) part = part ≡ None
+IsReadFor items d (Mend m) part = part ≡ None
+IsReadFor items d MendAck part = part ≡ None
 IsReadFor items d (Hint number m) part = part ≡ None
 IsReadFor items d (HintAck number) part = part ≡ None
 
@@ -123,6 +127,8 @@ HasPart (Read q) part = (p : List Held) × (part ≡ Some p)
 HasPart (Write m) part = Unit {0}
 HasPart WriteAck part = Unit {0}
 HasPart (ReadReply content) part = Unit {0}
+HasPart (Mend m) part = Unit {0}
+HasPart MendAck part = Unit {0}
 HasPart (Hint number m) part = Unit {0}
 HasPart (HintAck number) part = Unit {0}
 
@@ -140,12 +146,19 @@ pub record TakesChanges (a : Asker) (m : Mutation) (reply : Body) (x : Stage) (g
   pub gives : effects_given g ≡ replies a reply
   pub takes : x' ≡ at (record x.work { taken = x.work.taken ++ Data x.work.time m ∷ [] }) x.hints
 
+-- a merge comes in, if it can be written
+abbrev pub TakesMend : Bool → Asker → Mutation → Stage → Given → Stage → Type 0
+TakesMend true a m x g x' = MutationFits m × TakesChanges a m MendAck x g x'
+TakesMend false a m x g x' = (g.sends ≡ []) × (g.entries ≡ []) × (x' ≡ x)
+
 -- what a body makes of the step, by what came
 abbrev pub TakesBody : Base → Stage → Asker → Body → Option (List Held) → Given → Stage → Type 0
 TakesBody b x a (Write m) part g x' = TakesChanges a m WriteAck x g x'
 TakesBody b x a WriteAck part g x' = AckMoves b.setting a.request a.from (left_writes b x.work) x.work.write g x'.work.write × (x' ≡ at (record x.work { write = x'.work.write }) x.hints)
 TakesBody b x a (Read q) part g x' = ((p : List Held) × (part ≡ Some p) × (effects_given g ≡ replies a (ReadReply p))) × (x' ≡ x)
 TakesBody b x a (ReadReply content) part g x' = ReplyMoves b.setting a.request a.from content (left_reads b x.work) x.work.read g x'.work.read × (x' ≡ at (record x.work { read = x'.work.read }) x.hints)
+TakesBody b x a (Mend m) part g x' = TakesMend (write_fits b.setting m) a m x g x'
+TakesBody b x a MendAck part g x' = MendMoves b.setting a.request a.from (left_reads b x.work) x.work.read g x'.work.read × (x' ≡ at (record x.work { read = x'.work.read }) x.hints)
 TakesBody b x a (Hint number m) part g x' = TakesChanges a m (HintAck number) x g x'
 TakesBody b x a (HintAck number) part g x' = HearsHintAck b a.from number x g x'
 

@@ -9,7 +9,7 @@ use Rattle.stored_changes.specs.Spelling.{MutationFits}
 use Rattle.row_change.specs.declared.entry.LogItem.{LogItem}
 use Rattle.row_change.specs.declared.entry.LogItem.TheVariants.{Data, Paxos, HintAdd, HintGone, Ceiling, Mark, Purge}
 use Rattle.peer_messages.specs.declared.message.Body.{Body}
-use Rattle.peer_messages.specs.declared.message.Body.TheVariants.{Write, WriteAck, Read, ReadReply, Hint, HintAck}
+use Rattle.peer_messages.specs.declared.message.Body.TheVariants.{Write, WriteAck, Read, ReadReply, Mend, MendAck, Hint, HintAck}
 use Rattle.peer_messages.specs.declared.outcome.Outbound.{Outbound}
 use Rattle.durable_state.specs.State.{Durable}
 use Rattle.node_steps.specs.State.{NodeState, Batch, OpenWrite}
@@ -106,8 +106,10 @@ heard_act h = Hears (record { from = h.from; born = h.born; request = h.request;
 abbrev pub weight_of : Body → ℕ
 weight_of (Write m) = 2
 weight_of WriteAck = 1
-weight_of (Read q) = 2
-weight_of (ReadReply content) = 1
+weight_of (Read q) = 4
+weight_of (ReadReply content) = 3
+weight_of (Mend m) = 2
+weight_of MendAck = 1
 weight_of (Hint number m) = 2
 weight_of (HintAck number) = 1
 
@@ -115,13 +117,15 @@ abbrev pub weight : List Outbound → ℕ
 weight [] = 0
 weight (x ∷ xs) = weight_of x.body + weight xs
 
--- ---- what a step may keep
+-- ---- what a step may keep. A merge is tested where it is heard
 
 abbrev pub BodyFits : Body → Type 0
 BodyFits (Write m) = MutationFits m
 BodyFits WriteAck = Unit {0}
 BodyFits (Read q) = Unit {0}
 BodyFits (ReadReply content) = Unit {0}
+BodyFits (Mend m) = Unit {0}
+BodyFits MendAck = Unit {0}
 BodyFits (Hint number m) = MutationFits m
 BodyFits (HintAck number) = Unit {0}
 
@@ -131,6 +135,8 @@ IsPlain (Write m) = Unit {0}
 IsPlain WriteAck = Unit {0}
 IsPlain (Read q) = Unit {0}
 IsPlain (ReadReply content) = Unit {0}
+IsPlain (Mend m) = Unit {0}
+IsPlain MendAck = Unit {0}
 IsPlain (Hint number m) = ⊥
 IsPlain (HintAck number) = ⊥
 

@@ -12,6 +12,7 @@ ghost use Rattle.node_steps.specs.Requests.{refusal_at as refusal_at_of, is_over
 ghost use Rattle.node_core.specs.Asking.{AsksAs, AsksWrite, AsksRead, Begins, TellsEntry};
 ghost use Rattle.node_core.specs.Hinting.{at, LeavesHints};
 ghost use Rattle.node_core.specs.Working.{down_with};
+ghost use Rattle.node_core.specs.declared.slot.Slot.TheVariants.{New};
 
 use crate::base::Base;
 use crate::fits::{query_fits, write_fits};
@@ -20,10 +21,11 @@ use crate::work::{Given, Work};
 use changes::{DraftMutation, Mutation, Partition, Query};
 use cs_base::{Items, Level, NodeId};
 use hint_store::HintStore;
-use peer_messages::{Ask, Entry, Invalid, NodeIds, Plan, Refusal, Setting, count_up, is_in};
+use peer_messages::{Ask, Entry, Invalid, Move, NodeIds, Plan, Refusal, Setting, count_up, is_in};
 use read_coord::ReadCoord;
 use statement_plan::Columns;
 use std::alloc::{AllocError, Global};
+use std::mem;
 use write_coord::WriteCoord;
 
 fn unavailable_at(
@@ -85,8 +87,7 @@ impl Given {
     pub(crate) fn tells(alloc: Global, entry: Entry) -> Result<Given, AllocError>
         ensures { IfOk result (TellsEntry entry) }
     {
-        let mut entries = Vec::with_capacity(alloc, 1)?;
-        entries.push(entry)?;
+        let entries = vec![in alloc; entry]?;
         Ok(Given {
             sends: Items::new(alloc),
             entries: Items::from_vec(entries),
@@ -120,6 +121,20 @@ impl Work {
         !are_fewer(self.unanswered, self.open_reads, MOST_WAITING)
     }
 
+    /// Of a partition's replicas, those that are marked down and for which there is room for a hint.
+    fn hinted(
+        &self,
+        base: &Base,
+        hints: &HintStore,
+        alloc: Global,
+        partition: &Partition,
+    ) -> Result<NodeIds, AllocError>
+        ensures { IfOk result (λ hinted. hinted ≡ with_room hints.now.now (filter (λ k. is_in_of (down_with self.now.marked base.now.down) k) (replicas_of base.now.setting partition.now))) }
+    {
+        let replicas = base.setting.replicas(partition);
+        hinted_of(alloc, replicas.as_slice(), self.down(base), hints)
+    }
+
     /// Keeps the hints of a write that begins, and tells for whom.
     fn hint_begun(
         &mut self,
@@ -131,11 +146,30 @@ impl Work {
         ensures ok { IfOk result (λ hinted. (hinted ≡ with_room hints.old.now (filter (λ k. is_in_of (down_with self.old.marked base.now.down) k) (replicas_of base.now.setting mutation.now.partition))) × LeavesHints hinted self.old.request.time mutation.now (at self.old hints.old.now) (at self.new hints.new.now)) }
         ensures before { hints.new.before ≡ hints.old.before }
     {
-        let replicas = base.setting.replicas(&mutation.partition);
-        let hinted = hinted_of(alloc, replicas.as_slice(), self.down(base), hints)?;
+        let hinted = self.hinted(base, hints, alloc, &mutation.partition)?;
         let born = self.request.time;
         self.leave_hints(hints, alloc, hinted.as_slice(), born, mutation)?;
         Ok(hinted)
+    }
+
+    /// The write is open from here on, and this is what its move gives.
+    fn open_write(&mut self, write: WriteCoord, turn: Move) -> Given
+        ensures sends { result.sends ≡ turn.sends }
+        ensures entries { result.entries ≡ turn.entries }
+        ensures opens { self.new ≡ record self.old { write = New write } }
+    {
+        drop(mem::replace(&mut self.write, Slot::New(write)));
+        Given::of(turn)
+    }
+
+    /// The read is open from here on, and this is what its move gives.
+    fn open_read(&mut self, read: ReadCoord, turn: Move) -> Given
+        ensures sends { result.sends ≡ turn.sends }
+        ensures entries { result.entries ≡ turn.entries }
+        ensures opens { self.new ≡ record self.old { read = New read } }
+    {
+        drop(mem::replace(&mut self.read, Slot::New(read)));
+        Given::of(turn)
     }
 
     /// Begins a write that is not refused.
@@ -154,8 +188,7 @@ impl Work {
         let write = WriteCoord::start(alloc, level, mutation.copy(alloc)?, hinted)?;
         let id = self.request;
         let turn = write_coord::opening(alloc, &base.setting, self.down(base), id, mutation)?;
-        self.write = Slot::New(write);
-        Ok(Given::of(turn))
+        Ok(self.open_write(write, turn))
     }
 
     fn ask_write(
@@ -204,8 +237,7 @@ impl Work {
         let down = self.down(base);
         let id = self.request;
         let turn = read_coord::opening(alloc, &base.setting, down, id, level, query, columns)?;
-        self.read = Slot::New(read);
-        Ok(Given::of(turn))
+        Ok(self.open_read(read, turn))
     }
 
     fn ask_read(

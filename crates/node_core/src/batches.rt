@@ -1,6 +1,6 @@
 //! The hints that went to a peer last, whose acknowledgements are waited for.
 
-ghost use Rattle.std.specs.Prelude.{◌≡◌, ◌==◌, not, filter, IfOk};
+ghost use Rattle.std.specs.Prelude.{◌≡◌, ◌==◌, ◌∷◌, ◌++◌, [], not, filter, IfOk, OnOk};
 ghost use Rattle.cs_base.specs.Quorums.{is_in as is_in_of};
 ghost use Rattle.node_steps.specs.Hints.{waiting_of as waiting_of_peer, with_batch as with_batch_of};
 
@@ -31,11 +31,7 @@ impl Model for Waiting {
 fn copied(alloc: Global, numbers: &[u64]) -> Result<Numbers, AllocError>
     ensures { IfOk result (λ copy. copy ≡ numbers.now) }
 {
-    let mut copy = Vec::with_capacity(alloc, numbers.len())?;
-    for number in numbers {
-        copy.push(*number)?;
-    }
-    Ok(Items::from_vec(copy))
+    Ok(Items::from_vec(Vec::from_slice(alloc, numbers)?))
 }
 
 impl Waiting {
@@ -92,6 +88,33 @@ pub(crate) fn without(alloc: Global, numbers: &[u64], number: u64) -> Result<Num
     Ok(left)
 }
 
+/// Adds a copy of a batch, unless it is this peer's.
+fn add_other(
+    others: &mut Batches,
+    alloc: Global,
+    batch: &Waiting,
+    peer: NodeId,
+) -> Result<(), AllocError>
+    ensures { OnOk result (others.new ≡ others.old ++ filter (λ b. not (b.peer == peer)) (batch.now ∷ [])) }
+{
+    if batch.is_of(peer) {
+        return Ok(());
+    }
+    others.push(batch.copy(alloc)?)?;
+    Ok(())
+}
+
+/// The batches of the other peers.
+fn others(alloc: Global, batches: &[Waiting], peer: NodeId) -> Result<Batches, AllocError>
+    ensures { IfOk result (λ others. others ≡ filter (λ b. not (b.peer == peer)) batches.now) }
+{
+    let mut others = Items::new(alloc);
+    for batch in batches {
+        add_other(&mut others, alloc, batch, peer)?;
+    }
+    Ok(others)
+}
+
 /// The batches, where a peer's is this.
 pub(crate) fn with_batch(
     alloc: Global,
@@ -101,12 +124,7 @@ pub(crate) fn with_batch(
 ) -> Result<Batches, AllocError>
     ensures { IfOk result (λ new. new ≡ with_batch_of batches.now peer numbers) }
 {
-    let mut new = Items::new(alloc);
-    for batch in batches {
-        if !batch.is_of(peer) {
-            new.push(batch.copy(alloc)?)?;
-        }
-    }
+    let mut new = others(alloc, batches, peer)?;
     new.push(Waiting { peer, numbers })?;
     Ok(new)
 }

@@ -1,17 +1,18 @@
 //! How a step takes what is due, before the event's own matter.
 
-ghost use Rattle.std.specs.Prelude.{◌≡◌, ◌<◌, ◌≤◌, ◌^◌, false, IfOk, OnOk};
+ghost use Rattle.std.specs.Prelude.{◌≡◌, ◌<◌, ◌≤◌, ◌^◌, ◌-◌, ◌∷◌, ◌++◌, [], false, IfOk, OnOk};
 ghost use Rattle.peer_messages.specs.Moves.{deadline_of};
 ghost use Rattle.node_steps.specs.Effects.{open_at};
 ghost use Rattle.node_core.specs.Asking.{IsUnmoved, IsFresh};
 ghost use Rattle.node_core.specs.Due.{deadline_key as deadline_key_of};
+ghost use Rattle.node_core.specs.declared.due.DueKind.TheVariants.{Deadline};
 ghost use Rattle.node_core.specs.Deadlines.{EndsWrite, EndsRead, EndsRequest, EndsDue, IsNext, IsNextDue};
 ghost use Rattle.node_core.specs.Hinting.{at};
 ghost use Rattle.node_core.specs.Moving.{TakesDue, IsHolding};
 ghost use Rattle.node_core.specs.Working.{IsSound};
 
 use crate::base::Base;
-use crate::due::{DueKey, find_due, has_due};
+use crate::due::{DueKey, DueKind, find_due, has_due};
 use crate::work::{Given, Work};
 use cs_base::ReqId;
 use hint_store::HintStore;
@@ -45,6 +46,16 @@ impl Work {
         Ok(Given::of(turn))
     }
 
+    /// A read is no longer open.
+    fn close_read(&mut self, request: ReqId) -> Result<(), AllocError>
+        requires open { 0 < self.old.open_reads }
+        ensures { OnOk result (self.new ≡ record self.old { ended_reads = self.old.ended_reads ++ request ∷ []; open_reads = self.old.open_reads - 1 }) }
+    {
+        self.ended_reads.push(request)?;
+        self.open_reads -= 1;
+        Ok(())
+    }
+
     /// An open read's deadline comes, and the read ends.
     fn end_read(
         &mut self,
@@ -57,8 +68,7 @@ impl Work {
         requires open { 0 < self.old.open_reads }
         ensures { IfOk result (λ given. EndsRead base.now request.now read.now self.old given self.new) }
     {
-        self.ended_reads.push(*request)?;
-        self.open_reads -= 1;
+        self.close_read(*request)?;
         let turn = read.at_time(alloc, &base.setting, *request, self.time)?;
         Ok(Given::of(turn))
     }
@@ -99,16 +109,18 @@ impl Work {
         requires sound { IsSound base.now self.old }
         requires unmoved { IsUnmoved self.old }
         requires due { due.moment ≤ self.old.time }
-        requires key { due.number ≡ 0 → due ≡ deadline_key_of due.request }
+        requires key { due.kind ≡ Deadline → due ≡ deadline_key_of due.request }
         requires next { IsNextDue due self.old }
         ensures ok { OnOk result (EndsDue base.now due (at self.old hints.old.now) (at self.new hints.new.now)) }
         ensures before { hints.new.before ≡ hints.old.before }
     {
-        if due.number == 0 {
-            let given = self.end_request(base, hints, alloc, due.request)?;
-            return self.give(base.me, given);
+        match due.kind {
+            DueKind::Deadline => {
+                let given = self.end_request(base, hints, alloc, due.request)?;
+                self.give(base.me, given)
+            }
+            DueKind::Expiry => self.drop_hint(hints, due.peer, due.number),
         }
-        self.drop_hint(hints, due.peer, due.number)
     }
 }
 

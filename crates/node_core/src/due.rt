@@ -1,12 +1,14 @@
 //! What is due in a step: deadlines of open requests, and hints that have come to be too old.
 
 ghost use Rattle.std.specs.Prelude.{◌≡◌, ◌↔◌, ◌<◌, ◌+◌, ◌^◌, ◌⊎◌, [], false, take_while, Contains, IfOk, OnOk};
+ghost use Rattle.std.specs.BTreeSet.{insert_key};
+ghost use Rattle.std.specs.List.Sorted.{IsStrictlySortedBy};
 ghost use Rattle.std.specs.Map.{keys_of};
 ghost use Rattle.cs_base.specs.declared.ids.ReqId.{ReqId as request_value};
 ghost use Rattle.peer_messages.specs.Moves.{deadline_of};
 ghost use Rattle.hint_store.specs.declared.aging.Expired.{Expired as expired_value};
 ghost use Rattle.node_core.specs.declared.due.DueKey.{DueKey as due_value};
-ghost use Rattle.node_core.specs.Due.{AreOwn, AreDueKeys, is_due_at, IsDeadlineKey, IsExpiryKey, deadline_key as deadline_key_of, expiry_key as expiry_key_of};
+ghost use Rattle.node_core.specs.Due.{AreOwn, AreDueKeys, key_cmp, is_due_at, IsDeadlineKey, IsExpiryKey, deadline_key as deadline_key_of, expiry_key as expiry_key_of};
 ghost use Rattle.node_core.specs.Moving.{IsHolding};
 
 use crate::base::Base;
@@ -19,12 +21,20 @@ use std::collections::{BTreeMap, BTreeSet};
 /// How long a plain request waits for its replicas.
 const WAIT: u64 = 5_000_000;
 
+/// A request's own deadline comes before the ends of the hints that it left.
+#[derive(Clone, Copy, Debug, PartialEq, Eq, PartialOrd, Ord)]
+pub(crate) enum DueKind {
+    Deadline,
+    Expiry,
+}
+
 /// What is due, in the order in which a step takes it: a deadline, whose peer and number are 0, or the end of a hint that the
-/// request left, whose number is above 0.
+/// request left.
 #[derive(Clone, Copy, Debug, PartialEq, Eq, PartialOrd, Ord)]
 pub(crate) struct DueKey {
     pub moment: Micros,
     pub request: ReqId,
+    pub kind: DueKind,
     pub peer: NodeId,
     pub number: u64,
 }
@@ -38,6 +48,7 @@ fn deadline_key(request: ReqId) -> DueKey
     DueKey {
         moment: Micros::new(request.time.count() + WAIT),
         request,
+        kind: DueKind::Deadline,
         peer: NodeId::FIRST,
         number: 0,
     }
@@ -53,6 +64,7 @@ fn expiry_key(me: NodeId, expiry: Micros, hint: Expired) -> DueKey
             node: me,
             time: hint.born,
         },
+        kind: DueKind::Expiry,
         peer: hint.peer,
         number: hint.number,
     }
@@ -105,18 +117,33 @@ fn due_ids<W: Drop>(
         .collect(alloc)
 }
 
+/// Adds what is due, at its place.
+fn put(due: &mut DueKeys, key: DueKey) -> Result<(), AllocError>
+    ensures { OnOk result (due.new.keys ≡ insert_key key_cmp due.old.keys key) }
+{
+    due.insert(key)?;
+    Ok(())
+}
+
+/// What is due stands in the order of its keys.
+fn stands_in_order(due: &DueKeys)
+    ensures { IsStrictlySortedBy key_cmp due.now.keys }
+{
+    let _count = due.len();
+}
+
 /// Adds the deadlines of requests.
 fn add_deadlines(due: &mut DueKeys, ids: &[ReqId]) -> Result<(), AllocError>
     requires { (id : request_value) → Contains ids.now id → deadline_of id < 2 ^ 64 }
     ensures { OnOk result ((k : due_value) → Contains due.new.keys k ↔ (Contains due.old.keys k ⊎ IsDeadlineKey ids.now k)) }
 {
     for id in ids {
-        due.insert(deadline_key(*id))?;
+        put(due, deadline_key(*id))?;
     }
     Ok(())
 }
 
-/// Adds the ends of hints. One of number 0, which no node gives, has no place in the order, and no step is taken then.
+/// Adds the ends of hints.
 fn add_expired(
     due: &mut DueKeys,
     me: NodeId,
@@ -124,16 +151,33 @@ fn add_expired(
     expired: &[Expired],
 ) -> Result<(), AllocError>
     requires { (x : expired_value) → Contains expired.now x → x.born + expiry + 1 < 2 ^ 64 }
-    ensures each { OnOk result ((k : due_value) → Contains due.new.keys k ↔ (Contains due.old.keys k ⊎ IsExpiryKey me expiry expired.now k)) }
-    ensures numbers { OnOk result ((x : expired_value) → Contains expired.now x → 0 < x.number) }
+    ensures { OnOk result ((k : due_value) → Contains due.new.keys k ↔ (Contains due.old.keys k ⊎ IsExpiryKey me expiry expired.now k)) }
 {
     for hint in expired {
-        if hint.number == 0 {
-            return Err(AllocError);
-        }
-        due.insert(expiry_key(me, expiry, *hint))?;
+        put(due, expiry_key(me, expiry, *hint))?;
     }
     Ok(())
+}
+
+/// The deadlines of these writes and reads, and the ends of these hints.
+fn all_keys(
+    alloc: Global,
+    me: NodeId,
+    expiry: Micros,
+    writes: &[ReqId],
+    reads: &[ReqId],
+    expired: &[Expired],
+) -> Result<DueKeys, AllocError>
+    requires writes { (id : request_value) → Contains writes.now id → deadline_of id < 2 ^ 64 }
+    requires reads { (id : request_value) → Contains reads.now id → deadline_of id < 2 ^ 64 }
+    requires expired { (x : expired_value) → Contains expired.now x → x.born + expiry + 1 < 2 ^ 64 }
+    ensures { IfOk result (λ due. (k : due_value) → Contains due.keys k ↔ (IsDeadlineKey writes.now k ⊎ IsDeadlineKey reads.now k ⊎ IsExpiryKey me expiry expired.now k)) }
+{
+    let mut due = BTreeSet::new(alloc);
+    add_deadlines(&mut due, writes)?;
+    add_deadlines(&mut due, reads)?;
+    add_expired(&mut due, me, expiry, expired)?;
+    Ok(due)
 }
 
 /// All that is due at this time.
@@ -151,10 +195,7 @@ pub(crate) fn find_due(
     let writes = due_ids(alloc, &base.writes, time)?;
     let reads = due_ids(alloc, &base.reads, time)?;
     let expired = hints.expired(alloc, expiry, time)?;
-    let mut due = BTreeSet::new(alloc);
-    add_deadlines(&mut due, &writes)?;
-    add_deadlines(&mut due, &reads)?;
-    add_expired(&mut due, base.me, expiry, expired.as_slice())?;
-    let _in_order = due.len();
+    let due = all_keys(alloc, base.me, expiry, &writes, &reads, expired.as_slice())?;
+    stands_in_order(&due);
     Ok(due)
 }

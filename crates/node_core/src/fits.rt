@@ -105,8 +105,10 @@ fn body_fits(setting: &Setting, body: &Body) -> bool
     ensures fits { IsTrue result → BodyFits body.now }
 {
     match body {
-        Body::Write(mutation) | Body::Hint(_, mutation) => write_fits(setting, mutation),
-        Body::WriteAck | Body::HintAck(_) => true,
+        Body::Write(mutation) | Body::Mend(mutation) | Body::Hint(_, mutation) => write_fits(
+            setting, mutation,
+        ),
+        Body::WriteAck | Body::MendAck | Body::HintAck(_) => true,
         Body::Read(query) => query_fits(setting, query),
         Body::ReadReply(content) => changes_fit(content.as_slice()),
     }

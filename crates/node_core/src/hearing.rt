@@ -13,14 +13,17 @@ ghost use Rattle.durable_state.specs.State.{changes_of};
 ghost use Rattle.node_steps.specs.Replicas.{IsAnswerTo};
 ghost use Rattle.row_change.specs.declared.entry.LogItem.TheVariants.{Data};
 ghost use Rattle.node_steps.specs.Effects.{outbound};
+ghost use Rattle.node_steps.specs.Fitting.{write_fits as write_fits_of};
+ghost use Rattle.node_steps.specs.Hints.{KeptHints as kept_hints};
 ghost use Rattle.node_core.specs.Working.{effects_given, IsSlotOf, IsDataAt, IsSound, BodyFits, IsOwn};
-ghost use Rattle.node_core.specs.Hearing.{AckMoves, ReplyMoves};
+ghost use Rattle.node_core.specs.Hearing.{AckMoves, ReplyMoves, MendMoves};
 ghost use Rattle.node_core.specs.Hinting.{at};
-ghost use Rattle.node_core.specs.Moving.{replies, AnswersBehind, IsBehind, IsBehindItem, AreBehind, IsReadFor, HasPart, TakesBody, left_writes, left_reads, heard_from, IsHolding, IsOfOther, IsHeard, GoesBy, Peeks};
+ghost use Rattle.node_core.specs.Moving.{replies, AnswersBehind, IsBehind, IsBehindItem, AreBehind, IsReadFor, HasPart, TakesBody, TakesMend, left_writes, left_reads, heard_from, IsHolding, IsOfOther, IsHeard, GoesBy, Peeks};
 ghost use Rattle.replica.specs.declared.error.CallError.TheVariants as call_error;
 
 use crate::base::Base;
-use crate::hears::{hear_ack, hear_reply};
+use crate::fits::write_fits;
+use crate::hears::{hear_ack, hear_mend_ack, hear_reply};
 use crate::times::is_old;
 use crate::work::{Given, Work};
 use cell_merge::Content;
@@ -175,8 +178,13 @@ fn read_for<R: Replica>(
 {
     match body {
         Body::Read(query) => Ok(Some(answer(replica, alloc, items, query)?)),
-        Body::Write(_) | Body::WriteAck | Body::ReadReply(_) | Body::Hint(..) | Body::HintAck(_) =>
-            Ok(None),
+        Body::Write(_)
+        | Body::WriteAck
+        | Body::ReadReply(_)
+        | Body::Mend(_)
+        | Body::MendAck
+        | Body::Hint(..)
+        | Body::HintAck(_) => Ok(None),
     }
 }
 
@@ -197,8 +205,7 @@ fn sent_back(asker: Asker, body: Body) -> Outbound
 fn reply(alloc: Global, asker: Asker, body: Body) -> Result<Given, AllocError>
     ensures { IfOk result (λ given. effects_given given ≡ replies asker body) }
 {
-    let mut sends = Vec::with_capacity(alloc, 1)?;
-    sends.push(sent_back(asker, body))?;
+    let sends = vec![in alloc; sent_back(asker, body)]?;
     Ok(Given {
         sends: Items::from_vec(sends),
         entries: Items::new(alloc),
@@ -221,6 +228,13 @@ fn moved(alloc: Global, mutation: &mut Mutation) -> Mutation
 }
 
 impl Work {
+    fn take_in(&mut self, mutation: Mutation) -> Result<(), AllocError>
+        ensures { OnOk result (self.new ≡ record self.old { taken = self.old.taken ++ Data self.old.time mutation ∷ [] }) }
+    {
+        self.taken.push(LogItem::Data(self.time, mutation))?;
+        Ok(())
+    }
+
     /// Takes changes in: they are kept with the step, and acknowledged by this.
     fn take_changes(
         &mut self,
@@ -231,9 +245,29 @@ impl Work {
     ) -> Result<Given, AllocError>
         ensures { IfOk result (λ given. (effects_given given ≡ replies asker ack) × (self.new ≡ record self.old { taken = self.old.taken ++ Data self.old.time mutation.old ∷ [] })) }
     {
-        let mutation = moved(alloc, mutation);
-        self.taken.push(LogItem::Data(self.time, mutation))?;
-        reply(alloc, asker, ack)
+        match self.take_in(moved(alloc, mutation)) {
+            Ok(()) => reply(alloc, asker, ack),
+            Err(error) => {
+                drop(ack);
+                Err(error)
+            }
+        }
+    }
+
+    /// Takes a merge in, if it can be written: its own coordinator may send it one that cannot.
+    fn take_mend(
+        &mut self,
+        base: &Base,
+        alloc: Global,
+        asker: Asker,
+        mutation: &mut Mutation,
+    ) -> Result<Given, AllocError>
+        ensures { IfOk result (λ given. (hints : kept_hints) → TakesMend (write_fits_of base.now.setting mutation.old) asker mutation.old (at self.old hints) given (at self.new hints)) }
+    {
+        if !write_fits(&base.setting, mutation) {
+            return Ok(Given::nothing(alloc));
+        }
+        self.take_changes(alloc, asker, mutation, Body::MendAck)
     }
 
     fn hear_ack(&mut self, base: &Base, alloc: Global, asker: Asker) -> Result<Given, AllocError>
@@ -280,6 +314,21 @@ impl Work {
         )
     }
 
+    fn hear_mend_ack(
+        &mut self,
+        base: &Base,
+        alloc: Global,
+        asker: Asker,
+    ) -> Result<Given, AllocError>
+        requires ordered { IsOrdered request_cmp base.now.reads }
+        requires slot { IsSlotOf asker.request (left_reads base.now self.old) self.old.read }
+        ensures { IfOk result (λ given. MendMoves base.now.setting asker.request asker.from (left_reads base.now self.old) self.old.read given self.new.read × (self.new ≡ record self.old { read = self.new.read })) }
+    {
+        let ended = self.ended_reads.as_slice();
+        let slot = &mut self.read;
+        hear_mend_ack(&base.reads, ended, slot, alloc, asker.request, asker.from)
+    }
+
     /// Takes a body, by what came, and moves what it has; `part` is what is held of what it asks.
     fn hear_body(
         &mut self,
@@ -306,6 +355,8 @@ impl Work {
                 None => unreachable!(),
             },
             Body::ReadReply(content) => self.hear_reply(base, alloc, asker, content),
+            Body::Mend(mutation) => self.take_mend(base, alloc, asker, mutation),
+            Body::MendAck => self.hear_mend_ack(base, alloc, asker),
             Body::Hint(number, mutation) => {
                 let ack = Body::HintAck(*number);
                 self.take_changes(alloc, asker, mutation, ack)

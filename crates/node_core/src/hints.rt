@@ -1,8 +1,10 @@
 //! Hints in a step: some are kept for peers that missed a write, some go, and some are sent.
 
-ghost use Rattle.std.specs.Prelude.{◌≡◌, ◌∷◌, ◌&&◌, [], IfOk, OnOk, map};
+ghost use Rattle.std.specs.Prelude.{◌≡◌, Some, ◌∷◌, ◌++◌, ◌&&◌, [], IfOk, OnOk, map};
 ghost use Rattle.cs_base.specs.Quorums.{is_in};
-ghost use Rattle.node_steps.specs.Hints.{is_no_number, number_of, send_hint as send_hint_of};
+ghost use Rattle.row_change.specs.declared.entry.LogItem.TheVariants.{HintAdd};
+ghost use Rattle.node_steps.specs.Hints.{is_no_number, number_of, send_hint as send_hint_of, with_batch as with_batch_of};
+ghost use Rattle.node_core.specs.Working.{batches_with};
 ghost use Rattle.node_core.specs.Hinting.{at, LeavesHints, DropsHint, SendsFirst, HearsHintAck};
 
 use crate::base::Base;
@@ -50,6 +52,19 @@ fn send_hints(alloc: Global, me: NodeId, hints: Items<Hint>) -> Result<Sends, Al
     Ok(sends)
 }
 
+impl Given {
+    /// Hints on their way to their peers, and nothing is entered.
+    fn hints(alloc: Global, me: NodeId, hints: Items<Hint>) -> Result<Given, AllocError>
+        ensures sends { IfOk result (λ given. given.sends ≡ map (send_hint_of me) hints) }
+        ensures entries { IfOk result (λ given. given.entries ≡ []) }
+    {
+        Ok(Given {
+            sends: send_hints(alloc, me, hints)?,
+            entries: Items::new(alloc),
+        })
+    }
+}
+
 /// Whether an acknowledgement is the last that was waited for: of what was waited for, this is left.
 fn is_last(waiting: &[u64], left: &[u64], number: u64) -> bool
     ensures { result ≡ (is_in waiting.now number && is_no_number left.now) }
@@ -58,6 +73,27 @@ fn is_last(waiting: &[u64], left: &[u64], number: u64) -> bool
 }
 
 impl Work {
+    /// A hint comes in the step's entry.
+    fn enter_hint(
+        &mut self,
+        alloc: Global,
+        peer: NodeId,
+        number: u64,
+        born: Micros,
+        mutation: &Mutation,
+    ) -> Result<(), AllocError>
+        ensures { OnOk result (self.new ≡ record self.old { made = self.old.made ++ HintAdd (record { peer = peer; number = number; born = born; mutation = mutation.now }) ∷ [] }) }
+    {
+        let hint = Hint {
+            peer,
+            number,
+            born,
+            mutation: mutation.copy(alloc)?,
+        };
+        self.made.push(LogItem::HintAdd(hint))?;
+        Ok(())
+    }
+
     /// Keeps a hint for a peer, if there is room.
     fn leave_hint(
         &mut self,
@@ -70,17 +106,10 @@ impl Work {
         ensures ok { OnOk result (LeavesHints (peer ∷ []) born mutation.now (at self.old hints.old.now) (at self.new hints.new.now)) }
         ensures before { hints.new.before ≡ hints.old.before }
     {
-        let Some(number) = hints.add(peer, born, mutation.copy(alloc)?)? else {
-            return Ok(());
-        };
-        let hint = Hint {
-            peer,
-            number,
-            born,
-            mutation: mutation.copy(alloc)?,
-        };
-        self.made.push(LogItem::HintAdd(hint))?;
-        Ok(())
+        match hints.add(peer, born, mutation.copy(alloc)?)? {
+            Some(number) => self.enter_hint(alloc, peer, number, born, mutation),
+            None => Ok(()),
+        }
     }
 
     /// Keeps a hint for each of these peers for which there is room.
@@ -117,6 +146,22 @@ impl Work {
         Ok(())
     }
 
+    /// Waits for the acknowledgements of these hints, which are the peer's batch then.
+    fn wait_for(
+        &mut self,
+        base: &Base,
+        alloc: Global,
+        peer: NodeId,
+        hints: &[Hint],
+    ) -> Result<(), AllocError>
+        ensures { OnOk result (self.new ≡ record self.old { batches = Some (with_batch_of (batches_with self.old.batches base.now.batches) peer (map number_of hints.now)) }) }
+    {
+        let numbers = numbers_of(alloc, hints)?;
+        let batches = with_batch(alloc, self.batches(base), peer, numbers)?;
+        self.batches = Some(batches);
+        Ok(())
+    }
+
     /// Sends a peer's first hints, which are its batch then.
     pub(crate) fn send_first(
         &mut self,
@@ -128,13 +173,8 @@ impl Work {
         ensures { IfOk result (λ given. SendsFirst base.now peer hints.now.now self.old given self.new) }
     {
         let first = hints.first(alloc, &base.setting, peer)?;
-        let numbers = numbers_of(alloc, first.as_slice())?;
-        let batches = with_batch(alloc, self.batches(base), peer, numbers)?;
-        self.batches = Some(batches);
-        Ok(Given {
-            sends: send_hints(alloc, base.me, first)?,
-            entries: Items::new(alloc),
-        })
+        self.wait_for(base, alloc, peer, first.as_slice())?;
+        Given::hints(alloc, base.me, first)
     }
 
     /// Takes a peer's acknowledgement of a hint, which goes. Behind the last one that was waited for the next ones are sent.

@@ -1,5 +1,6 @@
 //! One node: it takes an event, keeps what the event changes, and tells what comes of it. What it keeps stands in a replica, whatever
-//! that is made of; in memory it has its time, what it takes for dead, and the open requests of clients.
+//! that is made of; in memory it has its time, what it takes for dead, the hints that it keeps and waits for, and the open requests of
+//! clients. A step takes what is due first, and changes nothing in memory before its entry is kept.
 #![tactic(auto)]
 
 mod asks;

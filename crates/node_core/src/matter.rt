@@ -37,28 +37,29 @@ pub(crate) fn request_of(me: NodeId, time: Micros, what: &What) -> ReqId
     }
 }
 
+fn empty<T: Drop>(items: &mut Items<T>, alloc: Global)
+    ensures { items.new ≡ [] }
+{
+    drop(mem::replace(items, Items::new(alloc)));
+}
+
 impl Work {
-    /// A step that has made nothing yet.
-    pub(crate) fn new(
-        base: &Base,
-        alloc: Global,
-        time: Micros,
-        ceiling: Micros,
-        request: ReqId,
-    ) -> Work
-        ensures fresh { IsFresh base.now result }
-        ensures times { (result.time ≡ time) × (result.ceiling ≡ ceiling) × (result.request ≡ request) }
-    {
+    /// Before the first step.
+    pub(crate) fn nothing(alloc: Global) -> Work {
+        let time = Micros::new(0);
         Work {
             time,
-            ceiling,
-            request,
+            ceiling: time,
+            request: ReqId {
+                node: NodeId::FIRST,
+                time,
+            },
             marked: None,
             batches: None,
             ended_writes: Items::new(alloc),
             ended_reads: Items::new(alloc),
-            unanswered: base.unanswered,
-            open_reads: base.reads.len(),
+            unanswered: 0,
+            open_reads: 0,
             write: Slot::Untouched,
             read: Slot::Untouched,
             taken: Items::new(alloc),
@@ -68,6 +69,37 @@ impl Work {
             entries: Items::new(alloc),
             queue: VecDeque::new(alloc),
         }
+    }
+
+    /// Begins a step that has made nothing yet. What another left, which was not kept, goes.
+    pub(crate) fn begin(
+        &mut self,
+        base: &Base,
+        alloc: Global,
+        time: Micros,
+        ceiling: Micros,
+        request: ReqId,
+    )
+        ensures fresh { IsFresh base.now self.new }
+        ensures times { (self.new.time ≡ time) × (self.new.ceiling ≡ ceiling) × (self.new.request ≡ request) }
+    {
+        self.time = time;
+        self.ceiling = ceiling;
+        self.request = request;
+        self.marked = None;
+        drop(self.batches.take());
+        self.ended_writes = Items::new(alloc);
+        self.ended_reads = Items::new(alloc);
+        self.unanswered = base.unanswered;
+        self.open_reads = base.reads.len();
+        drop(mem::replace(&mut self.write, Slot::Untouched));
+        drop(mem::replace(&mut self.read, Slot::Untouched));
+        empty(&mut self.taken, alloc);
+        empty(&mut self.made, alloc);
+        empty(&mut self.gone, alloc);
+        empty(&mut self.messages, alloc);
+        empty(&mut self.entries, alloc);
+        self.queue.clear();
     }
 
     /// Marks a node, which is of the ring. Where it is marked alive its first hints are sent.
@@ -211,7 +243,9 @@ fn settle<R: Replica>(
     ensures surely { IsErrOf result call_error.Failed → ((n : ℕ) → R.Disk.spares (R.disk replica.old) n) → ⊥ }
 {
     while let Some(mut sent) = work.queue.pop_front() {
-        hear_own(base, hints, replica, alloc, work, &mut sent)?;
+        let heard = hear_own(base, hints, replica, alloc, work, &mut sent);
+        drop(sent);
+        heard?;
     }
     Ok(())
 }

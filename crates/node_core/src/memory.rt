@@ -1,11 +1,12 @@
 //! What a node has in memory, and how it takes an event: all that the event makes is made first, then kept, and only then taken
 //! into memory.
 
-ghost use Rattle.std.specs.Prelude.{◌≡◌, ◌≤◌, ◌<◌, ◌^◌, ℕ, length, IfOk, OnOk, OnErr, IsErrOf};
+ghost use Rattle.std.specs.Prelude.{◌≡◌, ◌≤◌, ◌<◌, ◌^◌, ◌++◌, ℕ, length, IfOk, OnOk, OnErr, IsErrOf};
 ghost use Rattle.cs_base.specs.Faults.{HasRisen};
 ghost use Rattle.peer_messages.specs.declared.event.Event.{Event as event_value};
 ghost use Rattle.durable_state.specs.Keeping.{Commits, IsWithOrWithout};
 ghost use Rattle.node_steps.specs.Steps.{risen_time, end_of_time};
+ghost use Rattle.node_steps.specs.Keeping.{ceiling_in};
 ghost use Rattle.node_steps.specs.Stops.{remains};
 ghost use Rattle.replica.specs.Finding.{AlwaysLeaves};
 ghost use Rattle.replica.specs.Kept.{IsKeptOf, IsKeptAfter};
@@ -45,6 +46,8 @@ pub(crate) struct Memory {
     pub kept: Kept,
     /// The hints that it keeps.
     pub hints: HintStore,
+    /// What its step has made. It stays in its place between steps, since it is large.
+    pub made: Made,
 }
 
 /// What a step has made, and what its outputs have beside.
@@ -65,21 +68,45 @@ fn is_flush(what: &What) -> bool
 /// An entry has fewer items.
 const MOST_ITEMS: usize = 1 << 32;
 
-/// What a step keeps, kind by kind: the changes that it takes in, the hints that come and those that go, which are moved, and its
-/// ceiling where that is raised.
-fn entry_of(work: &mut Work, alloc: Global, before: Micros) -> Result<LogEntry, AllocError>
-    ensures items { IfOk result (λ entry. entry.items ≡ entry_made before work.old) }
-    ensures few { IfOk result (λ entry. length entry.items < 2 ^ 32) }
-    ensures work { work.new ≡ record work.old { taken = work.new.taken; made = work.new.made; gone = work.new.gone } }
+fn joined(mut items: Vec<LogItem>, mut more: Vec<LogItem>) -> Result<Items<LogItem>, AllocError>
+    ensures { IfOk result (λ all. all ≡ items.items ++ more.items) }
 {
-    let mut items = mem::replace(&mut work.taken, Items::new(alloc)).into_vec();
-    let mut hints = mem::replace(&mut work.made, Items::new(alloc)).into_vec();
-    let mut gone = mem::replace(&mut work.gone, Items::new(alloc)).into_vec();
-    hints.append(&mut gone)?;
-    items.append(&mut hints)?;
-    if before != work.ceiling {
-        items.push(LogItem::Ceiling(work.ceiling))?;
+    items.append(&mut more)?;
+    Ok(Items::from_vec(items))
+}
+
+/// Moves items behind others. Where there is none, as of hints in most steps, nothing is moved.
+fn move_behind(
+    items: &mut Items<LogItem>,
+    more: &mut Items<LogItem>,
+    alloc: Global,
+) -> Result<(), AllocError>
+    ensures { OnOk result (items.new ≡ items.old ++ more.old) }
+{
+    if more.as_slice().is_empty() {
+        return Ok(());
     }
+    let all = mem::replace(items, Items::new(alloc)).into_vec();
+    let moved = mem::replace(more, Items::new(alloc)).into_vec();
+    drop(mem::replace(items, joined(all, moved)?));
+    Ok(())
+}
+
+/// Adds a ceiling at the end, where it is raised.
+fn add_ceiling(items: &mut Vec<LogItem>, before: Micros, ceiling: Micros) -> Result<(), AllocError>
+    ensures { OnOk result (items.new.items ≡ items.old.items ++ ceiling_in before ceiling) }
+{
+    if before != ceiling {
+        items.push(LogItem::Ceiling(ceiling))?;
+    }
+    Ok(())
+}
+
+/// An entry of these items, unless they are too many.
+fn entry_with(items: Vec<LogItem>) -> Result<LogEntry, AllocError>
+    ensures items { IfOk result (λ entry. entry.items ≡ items.items) }
+    ensures few { IfOk result (λ entry. length entry.items < 2 ^ 32) }
+{
     if items.len() >= MOST_ITEMS {
         return Err(AllocError);
     }
@@ -88,29 +115,53 @@ fn entry_of(work: &mut Work, alloc: Global, before: Micros) -> Result<LogEntry, 
     })
 }
 
-impl Memory {
-    /// A step at this time, which has made nothing yet. Of the event is left what the node looks at.
-    fn begin(&self, alloc: Global, time: Micros, event: &mut Event) -> Made
-        requires time { time ≤ end_of_time }
-        ensures { IsBegun self.now time event.old (record { what = event.new.what; made = result }) }
-    {
-        let base = &self.base;
-        let refused = is_refused(&base.setting, self.time, time, event);
-        let started = request_began(base.me, time, &event.what);
-        let flushes = is_flush(&event.what);
-        let ceiling = raised(self.kept.ceiling, time);
-        look(self.time, event);
-        let request = request_of(base.me, time, &event.what);
-        Made {
-            work: Work::new(base, alloc, time, ceiling, request),
-            started,
-            refused,
-            flushes,
-        }
-    }
+/// What a step keeps, kind by kind: the changes that it takes in, the hints that come and those that go, which are moved, and its
+/// ceiling where that is raised.
+fn entry_of(work: &mut Work, alloc: Global, before: Micros) -> Result<LogEntry, AllocError>
+    ensures items { IfOk result (λ entry. entry.items ≡ entry_made before work.old) }
+    ensures few { IfOk result (λ entry. length entry.items < 2 ^ 32) }
+    ensures work { work.new ≡ record work.old { taken = work.new.taken; made = work.new.made; gone = work.new.gone } }
+{
+    move_behind(&mut work.made, &mut work.gone, alloc)?;
+    move_behind(&mut work.taken, &mut work.made, alloc)?;
+    let mut items = mem::replace(&mut work.taken, Items::new(alloc)).into_vec();
+    add_ceiling(&mut items, before, work.ceiling)?;
+    entry_with(items)
 }
 
 impl Made {
+    /// Before the first step.
+    pub(crate) fn nothing(alloc: Global) -> Made {
+        Made {
+            work: Work::nothing(alloc),
+            started: None,
+            refused: false,
+            flushes: false,
+        }
+    }
+
+    /// Begins a step at this time, which has made nothing yet. Of the event is left what the node looks at.
+    fn begin(
+        &mut self,
+        base: &Base,
+        before: Micros,
+        ceiling: Micros,
+        alloc: Global,
+        time: Micros,
+        event: &mut Event,
+    )
+        requires time { time ≤ end_of_time }
+        ensures { IsBegun base.now before ceiling time event.old (record { what = event.new.what; made = self.new }) }
+    {
+        self.refused = is_refused(&base.setting, before, time, event);
+        self.started = request_began(base.me, time, &event.what);
+        self.flushes = is_flush(&event.what);
+        look(before, event);
+        let request = request_of(base.me, time, &event.what);
+        self.work
+            .begin(base, alloc, time, raised(ceiling, time), request);
+    }
+
     /// What the node tells that stops in the step, which is moved.
     fn lost(&mut self, alloc: Global) -> Lost
         ensures { IsLost self.old.started self.old.work.entries result }
@@ -167,35 +218,35 @@ fn keep_made<R: Replica>(
     memory: &mut Memory,
     replica: &mut R,
     alloc: Global,
-    made: &mut Made,
 ) -> Result<Outputs, StepError>
     requires whole { R.is_whole replica.old }
     requires holding { IsHolding memory.old.base }
-    requires sound { IsSound memory.old.base made.old.work }
-    requires later { IsNewTo memory.old.base made.old.work.time }
+    requires sound { IsSound memory.old.base memory.old.made.work }
+    requires later { IsNewTo memory.old.base memory.old.made.work.time }
     requires bare { IsBare memory.old.kept }
-    requires kept { R.Disk.is_honest → IsKeptAfter (entry_made memory.old.kept.ceiling made.old.work) (R.durable replica.old) (record (kept_with memory.old.hints.now memory.old.kept) { ceiling = made.old.work.ceiling }) }
+    requires kept { R.Disk.is_honest → IsKeptAfter (entry_made memory.old.kept.ceiling memory.old.made.work) (R.durable replica.old) (record (kept_with memory.old.hints.now memory.old.kept) { ceiling = memory.old.made.work.ceiling }) }
 
-    ensures outputs { IfOk result (λ outputs. AreOutputsOf made.old outputs) }
-    ensures ok { OnOk result (R.Disk.is_honest → Commits (entry_made memory.old.kept.ceiling made.old.work) (R.durable replica.old) (R.durable replica.new)) }
-    ensures behind { OnOk result (core_of memory.new ≡ core_behind memory.old made.old.work memory.old.hints.now) }
+    ensures outputs { IfOk result (λ outputs. AreOutputsOf memory.old.made outputs) }
+    ensures ok { OnOk result (R.Disk.is_honest → Commits (entry_made memory.old.kept.ceiling memory.old.made.work) (R.durable replica.old) (R.durable replica.new)) }
+    ensures behind { OnOk result (core_of memory.new ≡ core_behind memory.old memory.old.made.work memory.old.hints.now) }
     ensures back { OnErr result (core_of memory.new ≡ core_of memory.old) }
     ensures ordered { AreOrdered memory.new.base }
     ensures bare { IsBare memory.new.kept }
     ensures whole { ((l : _) → IsErrOf result (step_error.Failed l) → ⊥) → R.is_whole replica.new }
     ensures same { OnErr result (((l : _) → IsErrOf result (step_error.Failed l) → ⊥) → R.Disk.is_honest → R.durable replica.new ≡ R.durable replica.old) }
-    ensures too_large { (p : _) → IsErrOf result (step_error.TooLarge p) → R.Disk.is_honest → IsFirstTooLarge (entry_made memory.old.kept.ceiling made.old.work) (R.durable replica.old) p }
-    ensures room { OnOk result (R.Disk.is_honest → HasRoom (R.log_end replica.old) (R.durable replica.old) (entry_made memory.old.kept.ceiling made.old.work)) }
-    ensures no_room { IsErrOf result step_error.NoRoom → R.Disk.is_honest → OverflowsLog (R.log_end replica.old) (R.durable replica.old) (entry_made memory.old.kept.ceiling made.old.work) }
-    ensures lost { (l : _) → IsErrOf result (step_error.Failed l) → IsLost made.old.started made.old.work.entries l }
+    ensures too_large { (p : _) → IsErrOf result (step_error.TooLarge p) → R.Disk.is_honest → IsFirstTooLarge (entry_made memory.old.kept.ceiling memory.old.made.work) (R.durable replica.old) p }
+    ensures room { OnOk result (R.Disk.is_honest → HasRoom (R.log_end replica.old) (R.durable replica.old) (entry_made memory.old.kept.ceiling memory.old.made.work)) }
+    ensures no_room { IsErrOf result step_error.NoRoom → R.Disk.is_honest → OverflowsLog (R.log_end replica.old) (R.durable replica.old) (entry_made memory.old.kept.ceiling memory.old.made.work) }
+    ensures lost { (l : _) → IsErrOf result (step_error.Failed l) → IsLost memory.old.made.started memory.old.made.work.entries l }
     ensures failed { (l : _) → IsErrOf result (step_error.Failed l) → HasRisen (R.Disk.faults (R.disk replica.old)) (R.Disk.faults (R.disk replica.new)) }
     ensures faults { R.Disk.faults (R.disk replica.old) ≤ R.Disk.faults (R.disk replica.new) }
     ensures surely { (l : _) → IsErrOf result (step_error.Failed l) → ((n : ℕ) → R.Disk.spares (R.disk replica.old) n) → ⊥ }
     ensures spared { ((n : ℕ) → R.Disk.spares (R.disk replica.old) n) → (n : ℕ) → R.Disk.spares (R.disk replica.new) n }
 
     // A crash at any moment leaves what was kept before the call, with the entry or without.
-    ensures any_moment { R.Disk.is_honest → AlwaysLeaves R.stands_for (IsWithOrWithout (entry_made memory.old.kept.ceiling made.old.work) (R.durable replica.old)) (R.Disk.disk (R.disk replica.old)) (R.Disk.disk (R.disk replica.new)) }
+    ensures any_moment { R.Disk.is_honest → AlwaysLeaves R.stands_for (IsWithOrWithout (entry_made memory.old.kept.ceiling memory.old.made.work) (R.durable replica.old)) (R.Disk.disk (R.disk replica.old)) (R.Disk.disk (R.disk replica.new)) }
 {
+    let made = &mut memory.made;
     let work = &mut made.work;
     let entry = entry_of(work, alloc, memory.kept.ceiling)?;
     let request = work.request;
@@ -265,16 +316,23 @@ fn step_at<R: Replica>(
 {
     // what an earlier step had of hints and did not keep
     memory.hints.back();
-    let mut made = memory.begin(alloc, time, event);
-    match made.work_out(
+    memory.made.begin(
+        &memory.base,
+        memory.time,
+        memory.kept.ceiling,
+        alloc,
+        time,
+        event,
+    );
+    match memory.made.work_out(
         &memory.base,
         &mut memory.hints,
         replica,
         alloc,
         &mut event.what,
     ) {
-        Ok(()) => keep_made(memory, replica, alloc, &mut made),
-        Err(CallError::Failed) => Err(StepError::Failed(made.lost(alloc))),
+        Ok(()) => keep_made(memory, replica, alloc),
+        Err(CallError::Failed) => Err(StepError::Failed(memory.made.lost(alloc))),
         Err(CallError::NoMemory) => Err(StepError::NoMemory),
     }
 }

@@ -16,7 +16,7 @@ ghost use Rattle.node_core.specs.Memory.{has_stopped as has_stopped_of, IsLoaded
 ghost use Rattle.node_core.specs.declared.outcome.StepError.TheVariants as step_error;
 
 use crate::base::Base;
-use crate::memory::{Memory, advance};
+use crate::memory::{Made, Memory, advance};
 use crate::outcome::{Lost, StepError};
 use cs_base::{Items, NodeId};
 use hint_store::HintStore;
@@ -104,6 +104,7 @@ impl NodeCore {
                 time: ceiling,
                 kept,
                 hints,
+                made: Made::nothing(alloc),
             },
             runs: true,
         })
@@ -211,13 +212,17 @@ impl<R: Replica> Node<R> {
         // A crash at any moment of the step leaves what was kept before it or behind it.
         ensures any_moment { self.old.core.runs ≡ true → R.Disk.is_honest → AlwaysLeaves R.stands_for (IsBeforeOrBehind self.old.core (R.durable self.old.replica) event) (R.Disk.disk (R.disk self.old.replica)) (R.Disk.disk (R.disk self.new.replica)) }
     {
-        self.core.step(&mut self.replica, alloc, &mut event)
+        let told = self.core.step(&mut self.replica, alloc, &mut event);
+        drop(event);
+        told
     }
 
     /// The node's disk, to be loaded again.
     pub fn release(self) -> R::Disk
         ensures { result ≡ R.disk self.replica }
     {
-        self.replica.release()
+        let Node { core, replica } = self;
+        drop(core);
+        replica.release()
     }
 }

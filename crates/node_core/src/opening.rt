@@ -1,18 +1,21 @@
 //! How the open requests take what a step made of one: what began is put in before the step is kept, which may want memory, and the
 //! rest behind it, which takes none.
 
-ghost use Rattle.std.specs.Prelude.{◌≡◌, IfOk, OnOk, OnErr};
-ghost use Rattle.std.specs.BTreeMap.{IsOrdered, is_at};
+ghost use Rattle.std.specs.Prelude.{◌≡◌, None, IfOk, OnOk, OnErr};
+ghost use Rattle.std.specs.BTreeMap.{IsOrdered, insert_entry, is_at};
 ghost use Rattle.std.specs.Map.{remove_entry, set_value};
 ghost use Rattle.cs_base.specs.Requests.{request_cmp};
-ghost use Rattle.node_core.specs.Working.{left_open};
+ghost use Rattle.node_steps.specs.Effects.{open_at};
+ghost use Rattle.node_core.specs.Working.{batches_with, down_with, left_open};
 ghost use Rattle.node_core.specs.declared.slot.Slot.TheVariants.{Old};
 ghost use Rattle.node_core.specs.Opening.{with_begun, without_begun, with_rest, LeavesRest, IsBegunAs, AreOrdered, MayPut, known_of, known_with, known_without, rest_of};
 
 use crate::base::Base;
+use crate::batches::Batches;
 use crate::slot::Slot;
 use crate::work::Work;
 use cs_base::ReqId;
+use peer_messages::NodeIds;
 use read_coord::ReadCoord;
 use std::alloc::AllocError;
 use std::collections::BTreeMap;
@@ -94,6 +97,22 @@ fn end_reads<W: Drop>(requests: &mut BTreeMap<ReqId, W>, ended: &[ReqId])
 }
 
 impl Base {
+    /// Puts in a write that was not open. An error leaves the node as it was.
+    fn insert_write(&mut self, request: ReqId, now: WriteCoord) -> Result<(), AllocError>
+        requires ordered { AreOrdered self.old }
+        requires absent { open_at self.old.writes.entries request ≡ None }
+        ensures known { OnOk result (known_of self.new ≡ record (known_of self.old) { writes = insert_entry request_cmp self.old.writes.entries request now }) }
+        ensures err { OnErr result (known_of self.new ≡ known_of self.old) }
+        ensures ordered { AreOrdered self.new }
+    {
+        // so the count has room for one more
+        let _most = self.writes.len();
+        let waits = usize::from(!now.is_answered());
+        drop(self.writes.insert(request, now)?);
+        self.unanswered += waits;
+        Ok(())
+    }
+
     /// Puts in a write that the step began, and tells whether it did. An error leaves the node as it was.
     fn begin_write(
         &mut self,
@@ -107,15 +126,13 @@ impl Base {
         ensures err { OnErr result (known_of self.new ≡ known_of self.old) }
         ensures ordered { AreOrdered self.new }
     {
-        let Some(now) = slot.take_new() else {
-            return Ok(false);
-        };
-        // so the count has room for one more
-        let _most = self.writes.len();
-        let waits = usize::from(!now.is_answered());
-        self.writes.insert(request, now)?;
-        self.unanswered += waits;
-        Ok(true)
+        match slot.take_new() {
+            Some(now) => {
+                self.insert_write(request, now)?;
+                Ok(true)
+            }
+            None => Ok(false),
+        }
     }
 
     /// Takes a write out, if it is open.
@@ -126,6 +143,7 @@ impl Base {
     {
         if let Some(write) = self.writes.remove(request) {
             self.unanswered -= usize::from(!write.is_answered());
+            drop(write);
         }
     }
 
@@ -215,6 +233,24 @@ impl Base {
         undo(&mut self.reads, request, began.read);
     }
 
+    /// Takes those for dead whom a step marked, if it marked any.
+    fn mark_down(&mut self, marked: Option<NodeIds>)
+        ensures { self.new ≡ record self.old { down = down_with marked self.old.down } }
+    {
+        if let Some(down) = marked {
+            self.down = down;
+        }
+    }
+
+    /// Waits for the hints that a step left to be waited for, if it changed them.
+    fn wait_for(&mut self, changed: Option<Batches>)
+        ensures { self.new ≡ record self.old { batches = batches_with changed self.old.batches } }
+    {
+        if let Some(batches) = changed {
+            self.batches = batches;
+        }
+    }
+
     /// Takes out what was due, and puts in the rest of what the step made, whom it marked, and the hints that it waits for. It
     /// takes no memory.
     pub(crate) fn put_rest(&mut self, work: &mut Work)
@@ -227,11 +263,7 @@ impl Base {
         self.end_due(work.ended_writes.as_slice(), work.ended_reads.as_slice());
         self.finish_write(&request, &mut work.write);
         finish(&mut self.reads, &request, &mut work.read);
-        if let Some(down) = work.marked.take() {
-            self.down = down;
-        }
-        if let Some(batches) = work.batches.take() {
-            self.batches = batches;
-        }
+        self.mark_down(work.marked.take());
+        self.wait_for(work.batches.take());
     }
 }

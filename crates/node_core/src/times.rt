@@ -1,11 +1,13 @@
 //! Node time: how it rises at an event, and which messages count for nothing.
 
 ghost use Rattle.std.specs.Prelude.{◌≡◌, ◌<◌, ◌≤◌, ◌↔◌, IsNone, IfSome};
+ghost use Rattle.peer_messages.specs.declared.event.What.TheVariants.{Tick};
 ghost use Rattle.node_steps.specs.Acts.{ceiling_after, is_old as is_old_of};
 ghost use Rattle.node_steps.specs.Steps.{reading as reading_of, message_time as message_time_of, is_ahead as is_ahead_of, looked_at, risen_time, end_of_time, started_by, is_refused as is_refused_of};
 
 use cs_base::{Micros, NodeId, ReqId};
 use peer_messages::{Event, Setting, What};
+use std::mem;
 
 /// No node's time passes this.
 const END_OF_TIME: u64 = (1 << 63) - (1 << 21);
@@ -111,12 +113,18 @@ pub(crate) fn request_began(me: NodeId, time: Micros, what: &What) -> Option<Req
     }
 }
 
+fn leave_nothing(what: &mut What)
+    ensures { what.new ≡ Tick }
+{
+    drop(mem::replace(what, What::Tick));
+}
+
 /// Leaves of the event what the node looks at.
 pub(crate) fn look(time: Micros, event: &mut Event)
     ensures { event.new ≡ record event.old { what = looked_at time event.old } }
 {
     let ahead = is_ahead(time, event);
     if ahead {
-        event.what = What::Tick;
+        leave_nothing(&mut event.what);
     }
 }

@@ -1,6 +1,6 @@
 //! What a step has made so far.
 
-ghost use Rattle.std.specs.Prelude.{◌≡◌, ◌∷◌, ◌++◌, [], OnOk, IfOk};
+ghost use Rattle.std.specs.Prelude.{◌≡◌, ◌==◌, ◌∷◌, ◌++◌, [], OnOk, IfOk};
 ghost use Rattle.node_steps.specs.Steps.{message_of, messages_of};
 ghost use Rattle.node_core.specs.Working.{own_sent};
 
@@ -13,6 +13,7 @@ use read_coord::ReadCoord;
 use row_change::LogItem;
 use std::alloc::{AllocError, Global};
 use std::collections::VecDeque;
+use std::mem;
 use write_coord::WriteCoord;
 
 /// What a step has made so far, at the time to which it rose. Beside what was due, it is of one request.
@@ -64,6 +65,22 @@ fn message(me: NodeId, sent: Outbound, time: Micros) -> Message
     }
 }
 
+/// Whether what is sent goes to the node itself.
+fn is_for(sent: &Outbound, me: NodeId) -> bool
+    ensures { result ≡ (sent.now.upto == me) }
+{
+    sent.upto == me
+}
+
+fn add_each(all: &mut Entries, more: Entries) -> Result<(), AllocError>
+    ensures { OnOk result (all.new ≡ all.old ++ more) }
+{
+    for entry in more.into_vec() {
+        all.push(entry)?;
+    }
+    Ok(())
+}
+
 impl Given {
     pub(crate) fn nothing(alloc: Global) -> Given
         ensures sends { result.sends ≡ [] }
@@ -110,16 +127,29 @@ impl Work {
         }
     }
 
+    fn hear_later(&mut self, sent: Outbound) -> Result<(), AllocError>
+        ensures queue { OnOk result (self.new.queue.items ≡ self.old.queue.items ++ sent ∷ []) }
+        ensures rest { self.new ≡ record self.old { queue = self.new.queue } }
+    {
+        self.queue.push_back(sent)?;
+        Ok(())
+    }
+
+    fn send_away(&mut self, me: NodeId, sent: Outbound) -> Result<(), AllocError>
+        ensures { OnOk result (self.new ≡ record self.old { messages = self.old.messages ++ message_of me self.old.time sent ∷ [] }) }
+    {
+        self.messages.push(message(me, sent, self.time))?;
+        Ok(())
+    }
+
     /// Sends a body, or has the node hear it.
     fn send(&mut self, me: NodeId, sent: Outbound) -> Result<(), AllocError>
         ensures { OnOk result (IsSent me (sent ∷ []) self.old self.new) }
     {
-        if sent.upto == me {
-            self.queue.push_back(sent)?;
-            return Ok(());
+        if is_for(&sent, me) {
+            return self.hear_later(sent);
         }
-        self.messages.push(message(me, sent, self.time))?;
-        Ok(())
+        self.send_away(me, sent)
     }
 
     fn send_all(&mut self, me: NodeId, sends: Sends) -> Result<(), AllocError>
@@ -138,13 +168,10 @@ impl Work {
         ensures { OnOk result (self.new ≡ record self.old { entries = self.old.entries ++ entries }) }
     {
         if self.entries.as_slice().is_empty() {
-            self.entries = entries;
+            drop(mem::replace(&mut self.entries, entries));
             return Ok(());
         }
-        for entry in entries.into_vec() {
-            self.entries.push(entry)?;
-        }
-        Ok(())
+        add_each(&mut self.entries, entries)
     }
 
     /// Sends and enters what a move gave.

@@ -21,6 +21,3 @@ pub use laws::receipts_name_their_entries;
 pub use lock::NodeLock;
 pub use pass::Pass;
 pub use stepper::Stepper;
-
-#[cfg(test)]
-mod tests;

@@ -2,7 +2,5 @@
 #![tactic(auto)]
 
 mod relay;
-#[cfg(test)]
-mod tests;
 
 pub use relay::{Relay, Sent, settle};

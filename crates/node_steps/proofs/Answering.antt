@@ -10,7 +10,7 @@ use Rattle.peer_messages.specs.declared.event.Event.{Event}
 use Rattle.peer_messages.specs.declared.event.What.{What}
 use Rattle.peer_messages.specs.declared.event.What.TheVariants.{Deliver, Tick}
 use Rattle.peer_messages.specs.declared.message.Body.{Body}
-use Rattle.peer_messages.specs.declared.message.Body.TheVariants.{Write, WriteAck, Read, ReadReply, Hint, HintAck}
+use Rattle.peer_messages.specs.declared.message.Body.TheVariants.{Write, WriteAck, Read, ReadReply, Mend, MendAck, Hint, HintAck}
 use Rattle.peer_messages.specs.declared.message.Message.{Message}
 use Rattle.peer_messages.specs.declared.outcome.Outbound.{Outbound}
 use Rattle.peer_messages.specs.declared.outcome.Outputs.{Outputs}
@@ -19,7 +19,7 @@ use Rattle.durable_state.specs.State.{Stored, changes_of}
 use Rattle.node_steps.specs.State.{NodeState, OpenWrite, OpenRead}
 use Rattle.node_steps.specs.Answering.{IsForReplica, IsAnswer, reply_to}
 use Rattle.node_steps.specs.Effects.{Effects, outbound, open_at}
-use Rattle.node_steps.specs.Fitting.{message_fits}
+use Rattle.node_steps.specs.Fitting.{write_fits, body_fits, message_fits}
 use Rattle.node_steps.specs.Replicas.{Asker, replies}
 use Rattle.node_steps.specs.Acts.{Act, Rises, Hears, Asks, Marks, DeadlineComes, HintExpires, Incoming, Deed, Does, HearsBody, Ends, EndsRead, Chain, own_sends, is_old, asker_of}
 use Rattle.node_steps.specs.Acts.Chain.{begun, own, matter}
@@ -168,13 +168,20 @@ Sent id from sends b = Contains sends (outbound id b from)
 replied : (a : Asker) (o : Effects) (b : Body) → o ≡ replies a b → Sent a.request a.from o.sends b
 replied a o b is = subst (λ (x : Effects). Sent a.request a.from x.sends b) (sym is) (contains_here (outbound a.request b a.from) [])
 
-body_answered : (c : Setting) (me : ℕ) (a : Asker) (b : Body) (s : NodeState) (o : Effects) (s' : NodeState) → IsForReplica b → HearsBody c me a b s o s' → (r : Body) × IsAnswer (changes_of s.content) b r × Sent a.request a.from o.sends r
-body_answered c me a (Write m) s o s' for h = (WriteAck, refl, replied a o WriteAck h.2)
-body_answered c me a WriteAck s o s' for h = absurd for
-body_answered c me a (Read q) s o s' for (part, reply, is, same) = (ReadReply part, (part, reply, refl), replied a o (ReadReply part) is)
-body_answered c me a (ReadReply content) s o s' for h = absurd for
-body_answered c me a (Hint number m) s o s' for h = (HintAck number, refl, replied a o (HintAck number) h.2)
-body_answered c me a (HintAck number) s o s' for h = absurd for
+is_taken : (fits : Bool) (P Q : Type 0) → fits ≡ true → MatchBool fits P Q → P
+is_taken true P Q test h = h
+is_taken false P Q test h = cc
+
+body_answered : (c : Setting) (me : ℕ) (a : Asker) (b : Body) (s : NodeState) (o : Effects) (s' : NodeState) → IsForReplica b → body_fits c b ≡ true → HearsBody c me a b s o s'
+    → (r : Body) × IsAnswer (changes_of s.content) b r × Sent a.request a.from o.sends r
+body_answered c me a (Write m) s o s' for fits h = (WriteAck, refl, replied a o WriteAck h.2)
+body_answered c me a WriteAck s o s' for fits h = absurd for
+body_answered c me a (Read q) s o s' for fits (part, reply, is, same) = (ReadReply part, (part, reply, refl), replied a o (ReadReply part) is)
+body_answered c me a (ReadReply content) s o s' for fits h = absurd for
+body_answered c me a (Mend m) s o s' for fits h = (MendAck, refl, replied a o MendAck (is_taken (write_fits c m) _ _ fits h).2)
+body_answered c me a MendAck s o s' for fits h = absurd for
+body_answered c me a (Hint number m) s o s' for fits h = (HintAck number, refl, replied a o (HintAck number) h.2)
+body_answered c me a (HintAck number) s o s' for fits h = absurd for
 
 not_old : (old : Bool) (P Q : Type 0) → old ≡ false → MatchBool old P Q → Q
 not_old false P Q test h = h
@@ -202,7 +209,7 @@ answered_at_once c me s e deeds o s' step m what fits heard for =
     let moves : Chain c me s (Rises t ∷ (qs ++ Hears inc ∷ [])) deeds s' [] [] = subst (λ (xs : List Act). Chain c me s (Rises t ∷ (qs ++ xs)) deeds s' [] []) (only_matter c me s e m what young.0 fits) step.moves in
     let h = stage_done c me s t qs (Hears inc) deeds s' [] [] (staged c me s t qs (Hears inc) (due_quiet c me t s step.due step.are_due) deeds s' [] [] moves) refl in
     let heard_body = not_old (is_old c h.mid.risen m.born) _ _ (ap (λ (n : ℕ). is_old c n m.born) h.risen ∙ young.1) h.does in
-    let r = body_answered c me (asker_of inc) m.body h.mid h.effects h.after for heard_body in
+    let r = body_answered c me (asker_of inc) m.body h.mid h.effects h.after for (message_parts c me m fits).body heard_body in
     let x : Outbound = outbound m.request r.0 m.from in
     let sends : o.sends ≡ messages_of me s'.time (flat_map sends_of deeds) = ap (λ (y : Outputs). y.sends) step.outputs in
     let time : o.time ≡ s'.time = ap (λ (y : Outputs). y.time) step.outputs in

@@ -4,12 +4,14 @@ use Rattle.std.specs.Prelude.{◌==◌, if◌then◌else◌, map, flat_map}
 use Rattle.std.specs.List.{AllByRecursion}
 use Rattle.row_change.specs.declared.entry.Hint as hint
 use Rattle.row_change.specs.declared.entry.LogItem.{LogItem}
-use Rattle.row_change.specs.declared.entry.LogItem.TheVariants.{Ceiling}
+use Rattle.changes.specs.declared.Mutation.{Mutation}
+use Rattle.row_change.specs.declared.entry.LogItem.TheVariants.{Data, Ceiling}
 use Rattle.row_change.specs.Grammar.{kind_of, AreByKind}
 use Rattle.peer_messages.specs.declared.message.Body.{Body}
-use Rattle.peer_messages.specs.declared.message.Body.TheVariants.{Write, WriteAck, Read, ReadReply, Hint, HintAck}
+use Rattle.peer_messages.specs.declared.message.Body.TheVariants.{Write, WriteAck, Read, ReadReply, Mend, MendAck, Hint, HintAck}
 use Rattle.peer_messages.specs.declared.setting.Setting.{Setting}
 use Rattle.node_steps.specs.State.{NodeState}
+use Rattle.node_steps.specs.Fitting.{write_fits}
 use Rattle.node_steps.specs.Acts.{Act, Rises, Hears, Asks, Marks, DeadlineComes, HintExpires, Deed, is_old}
 use Rattle.node_steps.specs.Keeping.{Gone, data_of, data_by, data_in, hints_made, hints_gone, add_item, gone_item, ceiling_in, entry_of}
 use Rattle.node_steps.proofs.HintLists.{append_both}
@@ -23,21 +25,27 @@ both_of : (n : ℕ) (xs ys : List LogItem) → AreOf n xs → AreOf n ys → Are
 both_of n [] ys first second = second
 both_of n (x ∷ xs) ys first second = (first.0, both_of n xs ys first.1 second)
 
-body_data : (t : ℕ) (b : Body) → AreOf 1 (data_of t b)
-body_data t (Write m) = (refl, tt)
-body_data t WriteAck = tt
-body_data t (Read q) = tt
-body_data t (ReadReply content) = tt
-body_data t (Hint number m) = (refl, tt)
-body_data t (HintAck number) = tt
+mend_data : (fits : Bool) (t : ℕ) (m : Mutation) → AreOf 1 (if fits then Data t m ∷ [] else [])
+mend_data true t m = (refl, tt)
+mend_data false t m = tt
 
-heard_data : (t : ℕ) (b : Body) (old : Bool) → AreOf 1 (if old then [] else data_of t b)
-heard_data t b true = tt
-heard_data t b false = body_data t b
+body_data : (c : Setting) (t : ℕ) (b : Body) → AreOf 1 (data_of c t b)
+body_data c t (Write m) = (refl, tt)
+body_data c t WriteAck = tt
+body_data c t (Read q) = tt
+body_data c t (ReadReply content) = tt
+body_data c t (Mend m) = mend_data (write_fits c m) t m
+body_data c t MendAck = tt
+body_data c t (Hint number m) = (refl, tt)
+body_data c t (HintAck number) = tt
+
+heard_data : (c : Setting) (t : ℕ) (b : Body) (old : Bool) → AreOf 1 (if old then [] else data_of c t b)
+heard_data c t b true = tt
+heard_data c t b false = body_data c t b
 
 act_data : (c : Setting) (t : ℕ) (a : Act) → AreOf 1 (data_by c t a)
 act_data c t (Rises time) = tt
-act_data c t (Hears m) = heard_data t m.body (is_old c t m.born)
+act_data c t (Hears m) = heard_data c t m.body (is_old c t m.born)
 act_data c t (Asks ask) = tt
 act_data c t (Marks peer up) = tt
 act_data c t (DeadlineComes id) = tt

@@ -5,15 +5,16 @@ use Rattle.std.proofs.lemmas.Grind.{flat_map-append}
 use Rattle.std.proofs.lemmas.Bool.{eqb-true}
 use Rattle.cs_base.specs.declared.level.Level.{Level}
 use Rattle.cs_base.specs.declared.ids.ReqId.{ReqId}
+use Rattle.changes.specs.declared.Mutation.{Mutation}
 use Rattle.changes.specs.Drafts.{mutation_of}
 use Rattle.row_change.specs.declared.entry.Hint as hint
 use Rattle.row_change.specs.declared.entry.LogItem.{LogItem}
-use Rattle.row_change.specs.declared.entry.LogItem.TheVariants.{Ceiling}
+use Rattle.row_change.specs.declared.entry.LogItem.TheVariants.{Data, Ceiling}
 use Rattle.peer_messages.specs.declared.event.Event.{Event}
 use Rattle.peer_messages.specs.declared.event.Plan.{Plan}
 use Rattle.peer_messages.specs.declared.event.Plan.TheVariants as plan
 use Rattle.peer_messages.specs.declared.message.Body.{Body}
-use Rattle.peer_messages.specs.declared.message.Body.TheVariants.{Write, WriteAck, Read, ReadReply, Hint, HintAck}
+use Rattle.peer_messages.specs.declared.message.Body.TheVariants.{Write, WriteAck, Read, ReadReply, Mend, MendAck, Hint, HintAck}
 use Rattle.peer_messages.specs.declared.chronicle.Refusal.{Refusal}
 use Rattle.peer_messages.specs.declared.outcome.Outputs.{Outputs}
 use Rattle.peer_messages.specs.declared.setting.Setting.{Setting}
@@ -23,10 +24,11 @@ use Rattle.durable_state.proofs.Entries.{commits_both}
 use Rattle.node_steps.specs.State.{NodeState, OpenWrite, OpenRead, durable_of}
 use Rattle.node_steps.specs.Effects.{Effects, nothing, open_at}
 use Rattle.node_steps.specs.Hints.{KeptHints, hints_in, drop_hint, is_last, hint_done, with_sent}
+use Rattle.node_steps.specs.Fitting.{write_fits}
 use Rattle.node_steps.specs.Replicas.{Asker}
 use Rattle.node_steps.specs.Writes.{unheard}
 use Rattle.node_steps.specs.Requests.{refusal_of, hinted_at, BeginsOrRefuses}
-use Rattle.node_steps.specs.Acts.{Act, Rises, Hears, Asks, Marks, DeadlineComes, HintExpires, Incoming, Deed, Does, HearsBody, Ends, EndsRead, mark_state, Chain, request_at, is_old, asker_of}
+use Rattle.node_steps.specs.Acts.{Act, Rises, Hears, Asks, Marks, DeadlineComes, HintExpires, Incoming, Deed, Does, HearsBody, TakesChanges, Ends, EndsRead, mark_state, Chain, request_at, is_old, asker_of}
 use Rattle.node_steps.specs.Acts.Chain.{begun, own, matter}
 use Rattle.node_steps.specs.Steps.{NodeStep}
 use Rattle.node_steps.specs.Keeping.{Gone, gone_if_kept, data_of, data_by, hints_of_plan, hints_at_end, hints_by, gone_by_body, gone_by, data_in, hints_made, hints_gone, hint_items, ceiling_in, entry_of}
@@ -49,16 +51,23 @@ marked_content : (c : Setting) (s : NodeState) (peer : ℕ) (up : Bool) → (mar
 marked_content c s peer true = refl
 marked_content c s peer false = refl
 
-body_keeps : (c : Setting) (n : Durable) (me : ℕ) (a : Asker) (b : Body) (s : NodeState) (o : Effects) (s' : NodeState) → HearsBody c me a b s o s' → Commits (data_of s.risen b) (held n s.content) (held n s'.content)
+mend_keeps : (c : Setting) (n : Durable) (a : Asker) (m : Mutation) (fits : Bool) (s : NodeState) (o : Effects) (s' : NodeState) → MatchBool fits (TakesChanges a m.partition m.changes MendAck s o s') ((o ≡ nothing) × (s' ≡ s))
+    → Commits (if fits then Data s.risen m ∷ [] else []) (held n s.content) (held n s'.content)
+mend_keeps c n a m true s o s' (takes, arrive, is, same) = (held n s'.content, (takes, arrive, refl), refl)
+mend_keeps c n a m false s o s' h = same_content n s s' s h.1 refl
+
+body_keeps : (c : Setting) (n : Durable) (me : ℕ) (a : Asker) (b : Body) (s : NodeState) (o : Effects) (s' : NodeState) → HearsBody c me a b s o s' → Commits (data_of c s.risen b) (held n s.content) (held n s'.content)
 body_keeps c n me a (Write m) s o s' (takes, arrive, is, same) = (held n s'.content, (takes, arrive, refl), refl)
 body_keeps c n me a WriteAck s o s' h = same_content n s s' _ h.3 refl
 body_keeps c n me a (Read q) s o s' h = same_content n s s' _ h.3 refl
 body_keeps c n me a (ReadReply content) s o s' h = same_content n s s' _ h.3 refl
+body_keeps c n me a (Mend m) s o s' h = mend_keeps c n a m (write_fits c m) s o s' h
+body_keeps c n me a MendAck s o s' h = same_content n s s' _ h.3 refl
 body_keeps c n me a (Hint number m) s o s' (takes, arrive, is, same) = (held n s'.content, (takes, arrive, refl), refl)
 body_keeps c n me a (HintAck number) s o s' h = same_content n s s' _ h.1 (acked_content c (is_last s a.from number) s a.from number)
 
 hears_keeps : (c : Setting) (n : Durable) (me : ℕ) (m : Incoming) (old : Bool) (s : NodeState) (o : Effects) (s' : NodeState) → MatchBool old ((o ≡ nothing) × (s' ≡ s)) (HearsBody c me (asker_of m) m.body s o s')
-    → Commits (if old then [] else data_of s.risen m.body) (held n s.content) (held n s'.content)
+    → Commits (if old then [] else data_of c s.risen m.body) (held n s.content) (held n s'.content)
 hears_keeps c n me m true s o s' h = same_content n s s' s h.1 refl
 hears_keeps c n me m false s o s' h = body_keeps c n me (asker_of m) m.body s o s' h
 
@@ -118,11 +127,17 @@ ack_hints c s s' peer number is =
     let gone = gone_if_kept (hints_in s) peer number in
     to_hints (hints_in s) [] gone s' _ is (subst (λ (k : KeptHints). HintMove (hints_in s) [] gone k) (sym (acked_hints c (is_last s peer number) s peer number)) (drop_moves peer number (hints_in s)))
 
+mend_hints : (a : Asker) (m : Mutation) (fits : Bool) (s : NodeState) (o : Effects) (s' : NodeState) → MatchBool fits (TakesChanges a m.partition m.changes MendAck s o s') ((o ≡ nothing) × (s' ≡ s)) → MovesHints s [] [] s'
+mend_hints a m true s o s' h = to_hints (hints_in s) [] [] s' _ h.3 (no_hints (hints_in s))
+mend_hints a m false s o s' h = to_hints (hints_in s) [] [] s' s h.1 (no_hints (hints_in s))
+
 body_hints : (c : Setting) (me : ℕ) (a : Asker) (b : Body) (s : NodeState) (o : Effects) (s' : NodeState) → HearsBody c me a b s o s' → MovesHints s [] (gone_by_body a b s) s'
 body_hints c me a (Write m) s o s' h = to_hints (hints_in s) [] [] s' _ h.3 (no_hints (hints_in s))
 body_hints c me a WriteAck s o s' h = to_hints (hints_in s) [] [] s' _ h.3 (no_hints (hints_in s))
 body_hints c me a (Read q) s o s' h = to_hints (hints_in s) [] [] s' _ h.3 (no_hints (hints_in s))
 body_hints c me a (ReadReply content) s o s' h = to_hints (hints_in s) [] [] s' _ h.3 (no_hints (hints_in s))
+body_hints c me a (Mend m) s o s' h = mend_hints a m (write_fits c m) s o s' h
+body_hints c me a MendAck s o s' h = to_hints (hints_in s) [] [] s' _ h.3 (no_hints (hints_in s))
 body_hints c me a (Hint number m) s o s' h = to_hints (hints_in s) [] [] s' _ h.3 (no_hints (hints_in s))
 body_hints c me a (HintAck number) s o s' h = ack_hints c s s' a.from number h.1
 
@@ -192,11 +207,17 @@ marked_rest : (c : Setting) (s : NodeState) (peer : ℕ) (up : Bool) → rest_of
 marked_rest c s peer true = refl
 marked_rest c s peer false = refl
 
+mend_rest : (a : Asker) (m : Mutation) (fits : Bool) (s : NodeState) (o : Effects) (s' : NodeState) → MatchBool fits (TakesChanges a m.partition m.changes MendAck s o s') ((o ≡ nothing) × (s' ≡ s)) → KeepsRest s s'
+mend_rest a m true s o s' h = rest_as s s' _ h.3 refl
+mend_rest a m false s o s' h = rest_as s s' s h.1 refl
+
 body_rest : (c : Setting) (me : ℕ) (a : Asker) (b : Body) (s : NodeState) (o : Effects) (s' : NodeState) → HearsBody c me a b s o s' → KeepsRest s s'
 body_rest c me a (Write m) s o s' h = rest_as s s' _ h.3 refl
 body_rest c me a WriteAck s o s' h = rest_as s s' _ h.3 refl
 body_rest c me a (Read q) s o s' h = rest_as s s' _ h.3 refl
 body_rest c me a (ReadReply content) s o s' h = rest_as s s' _ h.3 refl
+body_rest c me a (Mend m) s o s' h = mend_rest a m (write_fits c m) s o s' h
+body_rest c me a MendAck s o s' h = rest_as s s' _ h.3 refl
 body_rest c me a (Hint number m) s o s' h = rest_as s s' _ h.3 refl
 body_rest c me a (HintAck number) s o s' h = rest_as s s' _ h.1 (acked_rest c (is_last s a.from number) s a.from number)
 

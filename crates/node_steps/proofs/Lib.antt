@@ -8,3 +8,4 @@ pub mod Answering
 pub mod Entries
 pub mod Failing
 pub mod Leading
+pub mod Mends

@@ -15,7 +15,7 @@ use Rattle.changes.specs.declared.Mutation.{Mutation}
 use Rattle.changes.specs.Drafts.{mutation_of}
 use Rattle.stored_changes.specs.Spelling.{MutationFits}
 use Rattle.row_change.specs.declared.entry.LogItem.{LogItem}
-use Rattle.row_change.specs.declared.entry.LogItem.TheVariants.{Ceiling}
+use Rattle.row_change.specs.declared.entry.LogItem.TheVariants.{Data, Ceiling}
 use Rattle.row_change.specs.declared.entry.Hint as hint
 use Rattle.row_change.specs.Spelling.{ItemFits}
 use Rattle.peer_messages.specs.declared.chronicle.Invalid.TheVariants as reason
@@ -27,7 +27,7 @@ use Rattle.peer_messages.specs.declared.event.Plan.TheVariants as plan
 use Rattle.peer_messages.specs.declared.event.What.{What}
 use Rattle.peer_messages.specs.declared.event.What.TheVariants.{Client, Deliver, Alive, Collect, Flush, Tick}
 use Rattle.peer_messages.specs.declared.message.Body.{Body}
-use Rattle.peer_messages.specs.declared.message.Body.TheVariants.{Write, WriteAck, Read, ReadReply, Hint, HintAck}
+use Rattle.peer_messages.specs.declared.message.Body.TheVariants.{Write, WriteAck, Read, ReadReply, Mend, MendAck, Hint, HintAck}
 use Rattle.peer_messages.specs.declared.message.Message.{Message}
 use Rattle.peer_messages.specs.declared.outcome.Move.{Move}
 use Rattle.peer_messages.specs.declared.outcome.Outbound.{Outbound}
@@ -42,9 +42,9 @@ use Rattle.node_steps.specs.Hints.{KeptHints, hints_in, push_hints, pushed_hints
 use Rattle.node_steps.specs.Holding.{HoldsFit}
 use Rattle.node_steps.specs.Replicas.{Asker}
 use Rattle.node_steps.specs.Writes.{HearsAck, unheard}
-use Rattle.node_steps.specs.Reads.{is_stray, replies_of, read_needs, TellsRows, MergesReply, HearsReply}
+use Rattle.node_steps.specs.Reads.{is_stray, replies_of, read_needs, TellsRows, differing, mend_of, mends, AwaitsMends, MergesReply, HearsReply, is_awaited, mended_by, HearsMendAck}
 use Rattle.node_steps.specs.Requests.{refusal_of, hinted_at, Begins, BeginsOrRefuses}
-use Rattle.node_steps.specs.Acts.{Act, Rises, Hears, Asks, Marks, DeadlineComes, HintExpires, Incoming, Deed, Does, HearsBody, Ends, EndsRead, mark_state, mark_sends, Chain, own_sends, request_at, is_old, asker_of}
+use Rattle.node_steps.specs.Acts.{Act, Rises, Hears, Asks, Marks, DeadlineComes, HintExpires, Incoming, Deed, Does, HearsBody, TakesChanges, Ends, EndsRead, mark_state, mark_sends, Chain, own_sends, request_at, is_old, asker_of}
 use Rattle.node_steps.specs.Acts.Chain.{begun, own, matter}
 use Rattle.node_steps.specs.Steps.{NodeStep, Due, AreDue, act_of, matter_of, looked_at, time_after, message_of, messages_of, sends_of}
 use Rattle.node_steps.specs.Keeping.{Gone, data_of, data_by, hints_of_plan, hints_at_end, hints_by, data_in, hints_made, hints_gone, add_item, gone_item, hint_items, ceiling_in}
@@ -54,12 +54,14 @@ use Rattle.node_steps.proofs.ByKind.{by_kind}
 use Rattle.node_steps.proofs.HintMembers.{IsOfWrite, sent_from, dropped_from, pushed_from, made_from}
 use Rattle.node_steps.proofs.Opened.{open_in, in_left, in_moved, in_inserted}
 
--- the body fits, if a content that it brings does
+-- the body fits, if a content or a merge that it brings does
 abbrev Fits : Setting → Body → Type 0
 Fits c (Write m) = write_fits c m ≡ true
 Fits c WriteAck = Unit {0}
 Fits c (Read q) = query_fits c q ≡ true
 Fits c (ReadReply content) = Unit {0}
+Fits c (Mend m) = Unit {0}
+Fits c MendAck = Unit {0}
 Fits c (Hint number m) = write_fits c m ≡ true
 Fits c (HintAck number) = Unit {0}
 
@@ -88,6 +90,8 @@ body_is c (Write m) h = h
 body_is c WriteAck h = tt
 body_is c (Read q) h = h
 body_is c (ReadReply content) h = tt
+body_is c (Mend m) h = tt
+body_is c MendAck h = tt
 body_is c (Hint number m) h = h
 body_is c (HintAck number) h = tt
 
@@ -157,17 +161,29 @@ ack_sends c me id from xs xs' (Some w) turn (w', (is, same), after) = by_move c 
 rows_sends : (c : Setting) (me : ℕ) (id : ReqId) (r : OpenRead) (turn : Move) → TellsRows id r turn → SendFit c me turn.sends
 rows_sends c me id r turn (rows, more, shown, is) = by_move c me turn _ is refl
 
-counted_sends : (b : Bool) (c : Setting) (me : ℕ) (id : ReqId) (r r' : OpenRead) (turn : Move) → MatchBool b ((turn ≡ quiet) × (r' ≡ r)) (TellsRows id r turn) → SendFit c me turn.sends
-counted_sends true c me id r r' turn h = by_move c me turn quiet h.0 refl
-counted_sends false c me id r r' turn h = rows_sends c me id r turn h
+awaits_sends : (c : Setting) (me : ℕ) (id : ReqId) (r r' : OpenRead) (ks : List ℕ) (sent turn : Move) → SendFit c me sent.sends → AwaitsMends id r ks sent turn r' → SendFit c me turn.sends
+awaits_sends c me id r r' [] sent turn fit h = rows_sends c me id r turn h
+awaits_sends c me id r r' (k ∷ ks) sent turn fit h = subst (λ (t : Move). SendFit c me t.sends) (sym h.0) fit
 
-merged_sends : (b : Bool) (c : Setting) (me : ℕ) (id : ReqId) (from : ℕ) (content : List Held) (r r' : OpenRead) (turn : Move) → MatchBool b ((turn ≡ quiet) × (r' ≡ r)) (MergesReply c id from content r turn r') → SendFit c me turn.sends
-merged_sends true c me id from content r r' turn h = by_move c me turn quiet h.0 refl
-merged_sends false c me id from content r r' turn (n, is, merge, counts) = counted_sends (nat_lt (replies_of c n) (read_needs c n)) c me id n r' turn counts
+counted_sends : (b : Bool) (c : Setting) (me : ℕ) (id : ReqId) (r r' : OpenRead) (turn : Move) → OfRing c me id → MatchBool b ((turn ≡ quiet) × (r' ≡ r)) (AwaitsMends id r (differing c r) (mends id r (differing c r)) turn r') → SendFit c me turn.sends
+counted_sends true c me id r r' turn of h = by_move c me turn quiet h.0 refl
+counted_sends false c me id r r' turn of h = awaits_sends c me id r r' (differing c r) _ turn (sent_fit c me id (Mend (mend_of r)) (differing c r) tt of) h
 
-reply_sends : (c : Setting) (me : ℕ) (id : ReqId) (from : ℕ) (content : List Held) (xs xs' : List (ReqId × OpenRead)) (o : Option OpenRead) (turn : Move) → Takes (HearsReply c id from content) id xs o turn xs' → SendFit c me turn.sends
-reply_sends c me id from content xs xs' None turn h = by_move c me turn quiet h.0 refl
-reply_sends c me id from content xs xs' (Some r) turn (r', step, same) = merged_sends (is_stray c from r) c me id from content r r' turn step
+merged_sends : (b : Bool) (c : Setting) (me : ℕ) (id : ReqId) (from : ℕ) (content : List Held) (r r' : OpenRead) (turn : Move) → OfRing c me id → MatchBool b ((turn ≡ quiet) × (r' ≡ r)) (MergesReply c id from content r turn r') → SendFit c me turn.sends
+merged_sends true c me id from content r r' turn of h = by_move c me turn quiet h.0 refl
+merged_sends false c me id from content r r' turn of (n, is, merge, counts) = counted_sends (nat_lt (replies_of c n) (read_needs c n)) c me id n r' turn of counts
+
+reply_sends : (c : Setting) (me : ℕ) (id : ReqId) (from : ℕ) (content : List Held) (xs xs' : List (ReqId × OpenRead)) (o : Option OpenRead) (turn : Move) → OfRing c me id → Takes (HearsReply c id from content) id xs o turn xs' → SendFit c me turn.sends
+reply_sends c me id from content xs xs' None turn of h = by_move c me turn quiet h.0 refl
+reply_sends c me id from content xs xs' (Some r) turn of (r', step, same) = merged_sends (is_stray c from r) c me id from content r r' turn of step
+
+mended_sends : (b : Bool) (c : Setting) (me : ℕ) (id : ReqId) (r r' : OpenRead) (ks : List ℕ) (turn : Move) → MatchBool b (AwaitsMends id r ks quiet turn r') ((turn ≡ quiet) × (r' ≡ r)) → SendFit c me turn.sends
+mended_sends true c me id r r' ks turn h = awaits_sends c me id r r' ks quiet turn (none_sent c me) h
+mended_sends false c me id r r' ks turn h = by_move c me turn quiet h.0 refl
+
+mend_ack_sends : (c : Setting) (me : ℕ) (id : ReqId) (from : ℕ) (xs xs' : List (ReqId × OpenRead)) (o : Option OpenRead) (turn : Move) → Takes (HearsMendAck c id from) id xs o turn xs' → SendFit c me turn.sends
+mend_ack_sends c me id from xs xs' None turn h = by_move c me turn quiet h.0 refl
+mend_ack_sends c me id from xs xs' (Some r) turn (r', step, same) = mended_sends (is_awaited r.mending from) c me id r r' (mended_by r.mending from) turn step
 
 -- ---- hints
 
@@ -195,11 +211,18 @@ acked_sends : (b : Bool) (c : Setting) (me : ℕ) (s : NodeState) (peer : ℕ) �
 acked_sends true c me s peer fit = hints_sent c me s peer fit
 acked_sends false c me s peer fit = none_sent c me
 
+mend_sends : (c : Setting) (me : ℕ) (a : Asker) (m : Mutation) (fits : Bool) (s : NodeState) (o : Effects) (s' : NodeState) → OfRing c me a.request
+    → MatchBool fits (TakesChanges a m.partition m.changes MendAck s o s') ((o ≡ nothing) × (s' ≡ s)) → SendFit c me o.sends
+mend_sends c me a m true s o s' of h = by_effects c me o _ h.2 (sent_fit c me a.request MendAck (a.from ∷ []) tt of)
+mend_sends c me a m false s o s' of h = by_effects c me o nothing h.0 (none_sent c me)
+
 body_sends : (c : Setting) (me : ℕ) (a : Asker) (b : Body) (s : NodeState) (o : Effects) (s' : NodeState) → OfRing c me a.request → HintsFit s.hints → HearsBody c me a b s o s' → SendFit c me o.sends
 body_sends c me a (Write m) s o s' of fit h = by_effects c me o _ h.2 (sent_fit c me a.request WriteAck (a.from ∷ []) tt of)
 body_sends c me a WriteAck s o s' of fit (turn, moves, is, same) = by_effects c me o _ is (ack_sends c me a.request a.from s.writes s'.writes (open_at s.writes a.request) turn moves)
 body_sends c me a (Read q) s o s' of fit (part, answer, is, same) = by_effects c me o _ is (sent_fit c me a.request (ReadReply part) (a.from ∷ []) tt of)
-body_sends c me a (ReadReply content) s o s' of fit (turn, moves, is, same) = by_effects c me o _ is (reply_sends c me a.request a.from content s.reads s'.reads (open_at s.reads a.request) turn moves)
+body_sends c me a (ReadReply content) s o s' of fit (turn, moves, is, same) = by_effects c me o _ is (reply_sends c me a.request a.from content s.reads s'.reads (open_at s.reads a.request) turn of moves)
+body_sends c me a (Mend m) s o s' of fit h = mend_sends c me a m (write_fits c m) s o s' of h
+body_sends c me a MendAck s o s' of fit (turn, moves, is, same) = by_effects c me o _ is (mend_ack_sends c me a.request a.from s.reads s'.reads (open_at s.reads a.request) turn moves)
 body_sends c me a (Hint number m) s o s' of fit h = by_effects c me o _ h.2 (sent_fit c me a.request (HintAck number) (a.from ∷ []) tt of)
 body_sends c me a (HintAck number) s o s' of fit h = by_effects c me o _ h.0 (acked_sends (is_last s a.from number) c me (hint_done s a.from number) a.from (drop_fit a.from number (hints_in s) fit))
 
@@ -276,12 +299,18 @@ acked_holds : (c : Setting) (b : Bool) (s : NodeState) (peer number : ℕ) → H
 acked_holds c true s peer number held = record { writes = held.writes; hints = drop_fit peer number (hints_in s) held.hints }
 acked_holds c false s peer number held = record { writes = held.writes; hints = drop_fit peer number (hints_in s) held.hints }
 
+mend_holds : (a : Asker) (m : Mutation) (fits : Bool) (s : NodeState) (o : Effects) (s' : NodeState) → HoldsFit s → MatchBool fits (TakesChanges a m.partition m.changes MendAck s o s') ((o ≡ nothing) × (s' ≡ s)) → HoldsFit s'
+mend_holds a m true s o s' held h = holds_as s' _ h.3 held.writes held.hints
+mend_holds a m false s o s' held h = holds_as s' s h.1 held.writes held.hints
+
 body_holds : (c : Setting) (me : ℕ) (a : Asker) (b : Body) (s : NodeState) (o : Effects) (s' : NodeState) → HoldsFit s → HearsBody c me a b s o s' → HoldsFit s'
 body_holds c me a (Write m) s o s' held h = holds_as s' _ h.3 held.writes held.hints
 body_holds c me a WriteAck s o s' held (turn, moves, is, same) =
     holds_as s' _ same (acked_fit c a.request a.from s.writes s'.writes (open_at s.writes a.request) turn refl moves held.writes) held.hints
 body_holds c me a (Read q) s o s' held h = holds_as s' _ h.3 held.writes held.hints
 body_holds c me a (ReadReply content) s o s' held h = holds_as s' _ h.3 held.writes held.hints
+body_holds c me a (Mend m) s o s' held h = mend_holds a m (write_fits c m) s o s' held h
+body_holds c me a MendAck s o s' held h = holds_as s' _ h.3 held.writes held.hints
 body_holds c me a (Hint number m) s o s' held h = holds_as s' _ h.3 held.writes held.hints
 body_holds c me a (HintAck number) s o s' held h = subst (λ (x : NodeState). HoldsFit x) (sym h.1) (acked_holds c (is_last s a.from number) s a.from number held)
 
@@ -443,15 +472,21 @@ items_both (x ∷ xs) ys first second = (first.0, items_both xs ys first.1 secon
 write_is : (c : Setting) (m : Mutation) → write_fits c m ≡ true → MutationFits m
 write_is c m h = (mutations_tested m).0 (fits_written c m h)
 
-data_fits : (c : Setting) (t : ℕ) (b : Body) → Fits c b → ItemsFit (data_of t b)
+mend_fits : (c : Setting) (t : ℕ) (m : Mutation) (fits : Bool) → write_fits c m ≡ fits → ItemsFit (if fits then Data t m ∷ [] else [])
+mend_fits c t m true fit = (write_is c m fit, tt)
+mend_fits c t m false fit = tt
+
+data_fits : (c : Setting) (t : ℕ) (b : Body) → Fits c b → ItemsFit (data_of c t b)
 data_fits c t (Write m) fit = (write_is c m fit, tt)
 data_fits c t WriteAck fit = tt
 data_fits c t (Read q) fit = tt
 data_fits c t (ReadReply content) fit = tt
+data_fits c t (Mend m) fit = mend_fits c t m (write_fits c m) refl
+data_fits c t MendAck fit = tt
 data_fits c t (Hint number m) fit = (write_is c m fit, tt)
 data_fits c t (HintAck number) fit = tt
 
-heard_data : (c : Setting) (t : ℕ) (b : Body) (old : Bool) → Fits c b → ItemsFit (if old then [] else data_of t b)
+heard_data : (c : Setting) (t : ℕ) (b : Body) (old : Bool) → Fits c b → ItemsFit (if old then [] else data_of c t b)
 heard_data c t b true fit = tt
 heard_data c t b false fit = data_fits c t b fit
 
@@ -493,21 +528,23 @@ kept_written c me s e deeds o s' step = (
 
 -- ---- what is sent fits
 
-body_sent : (c : Setting) (b : Body) → Fits c b → ((content : List Held) → b ≡ ReadReply content → changes_fit content ≡ true) → body_fits c b ≡ true
-body_sent c (Write m) fit content = fit
-body_sent c WriteAck fit content = refl
-body_sent c (Read q) fit content = fit
-body_sent c (ReadReply xs) fit content = content xs refl
-body_sent c (Hint number m) fit content = fit
-body_sent c (HintAck number) fit content = refl
+body_sent : (c : Setting) (b : Body) → Fits c b → ((content : List Held) → b ≡ ReadReply content → changes_fit content ≡ true) → ((m : Mutation) → b ≡ Mend m → write_fits c m ≡ true) → body_fits c b ≡ true
+body_sent c (Write m) fit content merged = fit
+body_sent c WriteAck fit content merged = refl
+body_sent c (Read q) fit content merged = fit
+body_sent c (ReadReply xs) fit content merged = content xs refl
+body_sent c (Mend m) fit content merged = merged m refl
+body_sent c MendAck fit content merged = refl
+body_sent c (Hint number m) fit content merged = fit
+body_sent c (HintAck number) fit content merged = refl
 
 message_sent : (c : Setting) (me t : ℕ) (x : Outbound) → is_node c me ≡ true → not (x.upto == me) ≡ true → Fits c x.body × OfRing c me x.request
-    → ((content : List Held) → x.body ≡ ReadReply content → changes_fit content ≡ true) → message_fits c x.upto (message_of me t x) ≡ true
-message_sent c me t x mine other fit content =
-    and_from _ _ (eq-eqb x.upto x.upto refl) (and_from _ _ (away x.upto me other) (and_from _ _ mine (and_from _ _ (fit.1 mine) (body_sent c x.body fit.0 content))))
+    → ((content : List Held) → x.body ≡ ReadReply content → changes_fit content ≡ true) → ((m : Mutation) → x.body ≡ Mend m → write_fits c m ≡ true) → message_fits c x.upto (message_of me t x) ≡ true
+message_sent c me t x mine other fit content merged =
+    and_from _ _ (eq-eqb x.upto x.upto refl) (and_from _ _ (away x.upto me other) (and_from _ _ mine (and_from _ _ (fit.1 mine) (body_sent c x.body fit.0 content merged))))
 
 pub sent_written : WhatIsSentFits
-sent_written c me s e deeds o s' step mine held m h content =
+sent_written c me s e deeds o s' step mine held m h content merged =
     let sends : o.sends ≡ messages_of me s'.time (flat_map sends_of deeds) = ap (λ (x : Outputs). x.sends) step.outputs in
     let made = contains_from_map (message_of me s'.time) (filter (λ x. not (x.upto == me)) (flat_map sends_of deeds)) m (subst (λ (xs : List Message). Contains xs m) sends h) in
     let x : Outbound = made.0 in
@@ -515,4 +552,5 @@ sent_written c me s e deeds o s' step mine held m h content =
     let there = contains_from_flat sends_of deeds x passes.0 in
     let fit = ((step_fits c me s e deeds o s' held step).deeds there.0 there.1).sends x there.2 in
     let bodies : (xs : List Held) → x.body ≡ ReadReply xs → changes_fit xs ≡ true = λ xs is. content xs (ap (λ (n : Message). n.body) (sym made.2) ∙ is) in
-    subst (λ (n : Message). message_fits c n.upto n ≡ true) made.2 (message_sent c me s'.time x mine passes.1 fit bodies)
+    let mutations : (n : Mutation) → x.body ≡ Mend n → write_fits c n ≡ true = λ n is. merged n (ap (λ (y : Message). y.body) (sym made.2) ∙ is) in
+    subst (λ (n : Message). message_fits c n.upto n ≡ true) made.2 (message_sent c me s'.time x mine passes.1 fit bodies mutations)

@@ -8,7 +8,7 @@ use Rattle.changes.specs.declared.Held.{Held}
 use Rattle.changes.specs.declared.Partition.{Partition}
 use Rattle.peer_messages.specs.declared.event.Ask.{Ask}
 use Rattle.peer_messages.specs.declared.message.Body.{Body}
-use Rattle.peer_messages.specs.declared.message.Body.TheVariants.{Write, WriteAck, Read, ReadReply, Hint, HintAck}
+use Rattle.peer_messages.specs.declared.message.Body.TheVariants.{Write, WriteAck, Read, ReadReply, Mend, MendAck, Hint, HintAck}
 use Rattle.peer_messages.specs.declared.outcome.Outbound.{Outbound}
 use Rattle.peer_messages.specs.declared.outcome.Move.{Move}
 use Rattle.peer_messages.specs.declared.setting.Setting.{Setting}
@@ -19,7 +19,8 @@ use Rattle.node_steps.specs.State.{NodeState, OpenWrite, OpenRead}
 use Rattle.node_steps.specs.Effects.{Effects, nothing, effects_of, open_at, AtRequest}
 use Rattle.node_steps.specs.Hints.{hints_in, drop_hint, with_hints_of, with_sent, sends_hints, hint_acked, sends_next}
 use Rattle.node_steps.specs.Writes.{HearsAck, write_told, unheard}
-use Rattle.node_steps.specs.Reads.{HearsReply, replies_of, read_needs, read_timeout}
+use Rattle.node_steps.specs.Reads.{HearsReply, HearsMendAck, timeout_of}
+use Rattle.node_steps.specs.Fitting.{write_fits}
 use Rattle.node_steps.specs.Replicas.{Asker, replies, IsReplyTo}
 use Rattle.node_steps.specs.Requests.{refusal_of, leaves_hints, BeginsOrRefuses}
 
@@ -60,12 +61,14 @@ TakesChanges a p changes reply s o s' =
     TakesIn (changes_of s.content) p changes (changes_of s'.content) × ArriveAt s.risen s.content s'.content
     × (o ≡ replies a reply) × (s' ≡ record s { content = s'.content })
 
--- by what came to node me
+-- By what came to node me. A merge that cannot be written in a log is not taken
 abbrev pub HearsBody : Setting → ℕ → Asker → Body → NodeState → Effects → NodeState → Type 0
 HearsBody c me a (Write m) s o s' = TakesChanges a m.partition m.changes WriteAck s o s'
 HearsBody c me a WriteAck s o s' = AtWrite (HearsAck c a.request a.from) a.request s o s'
 HearsBody c me a (Read q) s o s' = (part : List Held) × IsReplyTo (changes_of s.content) q part × (o ≡ replies a (ReadReply part)) × (s' ≡ s)
 HearsBody c me a (ReadReply content) s o s' = AtRead (HearsReply c a.request a.from content) a.request s o s'
+HearsBody c me a (Mend m) s o s' = MatchBool (write_fits c m) (TakesChanges a m.partition m.changes MendAck s o s') ((o ≡ nothing) × (s' ≡ s))
+HearsBody c me a MendAck s o s' = AtRead (HearsMendAck c a.request a.from) a.request s o s'
 HearsBody c me a (Hint number m) s o s' = TakesChanges a m.partition m.changes (HintAck number) s o s'
 HearsBody c me a (HintAck number) s o s' = (o ≡ record { sends = sends_next c me s a.from number; entries = [] }) × (s' ≡ hint_acked c s a.from number)
 
@@ -98,7 +101,7 @@ ends_read id s = record s { reads = remove_entry (is_at (request_cmp id)) s.read
 
 abbrev pub EndsRead : Setting → ReqId → Option OpenRead → NodeState → Effects → NodeState → Type 0
 EndsRead c id None s o s' = (o ≡ nothing) × (s' ≡ s)
-EndsRead c id (Some r) s o s' = (o ≡ effects_of (read_timeout id (replies_of c r) (read_needs c r))) × (s' ≡ ends_read id s)
+EndsRead c id (Some r) s o s' = (o ≡ effects_of (timeout_of c id r)) × (s' ≡ ends_read id s)
 
 abbrev pub Ends : Setting → ReqId → Option OpenWrite → NodeState → Effects → NodeState → Type 0
 Ends c id None s o s' = EndsRead c id (open_at s.reads id) s o s'

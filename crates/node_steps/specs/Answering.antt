@@ -3,7 +3,7 @@ use Rattle.std.specs.Prelude.{◌≡◌, ℕ, List}
 use Rattle.changes.specs.declared.Change.{Change}
 use Rattle.changes.specs.declared.Held.{Held}
 use Rattle.peer_messages.specs.declared.message.Body.{Body}
-use Rattle.peer_messages.specs.declared.message.Body.TheVariants.{Write, WriteAck, Read, ReadReply, Hint, HintAck}
+use Rattle.peer_messages.specs.declared.message.Body.TheVariants.{Write, WriteAck, Read, ReadReply, Mend, MendAck, Hint, HintAck}
 use Rattle.peer_messages.specs.declared.message.Message.{Message}
 use Rattle.node_steps.specs.Replicas.{IsReplyTo}
 
@@ -13,6 +13,8 @@ IsForReplica (Write m) = Unit {0}
 IsForReplica WriteAck = ⊥
 IsForReplica (Read q) = Unit {0}
 IsForReplica (ReadReply content) = ⊥
+IsForReplica (Mend m) = Unit {0}
+IsForReplica MendAck = ⊥
 IsForReplica (Hint number m) = Unit {0}
 IsForReplica (HintAck number) = ⊥
 
@@ -22,6 +24,8 @@ IsAnswer content (Write m) b = b ≡ WriteAck
 IsAnswer content WriteAck b = ⊥
 IsAnswer content (Read q) b = (part : List Held) × IsReplyTo content q part × (b ≡ ReadReply part)
 IsAnswer content (ReadReply other) b = ⊥
+IsAnswer content (Mend m) b = b ≡ MendAck
+IsAnswer content MendAck b = ⊥
 IsAnswer content (Hint number m) b = b ≡ HintAck number
 IsAnswer content (HintAck number) b = ⊥
 

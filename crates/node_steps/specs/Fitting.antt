@@ -11,7 +11,7 @@ use Rattle.changes.specs.declared.Place.TheVariants.{Cell, Marker, RowGone, Rang
 use Rattle.changes.specs.declared.Query.{Query}
 use Rattle.changes.specs.Places.{stored_cmp}
 use Rattle.peer_messages.specs.declared.message.Body.{Body}
-use Rattle.peer_messages.specs.declared.message.Body.TheVariants.{Write, WriteAck, Read, ReadReply, Hint, HintAck}
+use Rattle.peer_messages.specs.declared.message.Body.TheVariants.{Write, WriteAck, Read, ReadReply, Mend, MendAck, Hint, HintAck}
 use Rattle.peer_messages.specs.declared.message.Message.{Message}
 use Rattle.peer_messages.specs.declared.setting.Setting.{Setting}
 
@@ -81,6 +81,8 @@ body_fits c (Write m) = write_fits c m
 body_fits c WriteAck = true
 body_fits c (Read q) = query_fits c q
 body_fits c (ReadReply content) = changes_fit content
+body_fits c (Mend m) = write_fits c m
+body_fits c MendAck = true
 body_fits c (Hint number m) = write_fits c m
 body_fits c (HintAck number) = true
 

@@ -9,11 +9,12 @@ use Rattle.peer_messages.specs.declared.chronicle.Refusal.{Refusal}
 use Rattle.peer_messages.specs.declared.event.Plan.{Plan}
 use Rattle.peer_messages.specs.declared.event.Plan.TheVariants as plan
 use Rattle.peer_messages.specs.declared.message.Body.{Body}
-use Rattle.peer_messages.specs.declared.message.Body.TheVariants.{Write, WriteAck, Read, ReadReply, Hint, HintAck}
+use Rattle.peer_messages.specs.declared.message.Body.TheVariants.{Write, WriteAck, Read, ReadReply, Mend, MendAck, Hint, HintAck}
 use Rattle.peer_messages.specs.declared.setting.Setting.{Setting}
 use Rattle.node_steps.specs.State.{NodeState, OpenWrite}
 use Rattle.node_steps.specs.Effects.{open_at}
 use Rattle.node_steps.specs.Hints.{KeptHints, hints_in, is_kept, pushed_hints}
+use Rattle.node_steps.specs.Fitting.{write_fits}
 use Rattle.node_steps.specs.Writes.{unheard}
 use Rattle.node_steps.specs.Requests.{refusal_of, hinted_at}
 use Rattle.node_steps.specs.Replicas.{Asker}
@@ -21,17 +22,19 @@ use Rattle.node_steps.specs.Acts.{Act, Rises, Hears, Asks, Marks, DeadlineComes,
 
 -- ---- changes that are taken in
 
-abbrev pub data_of : ℕ → Body → List LogItem
-data_of arrival (Write m) = Data arrival m ∷ []
-data_of arrival WriteAck = []
-data_of arrival (Read q) = []
-data_of arrival (ReadReply content) = []
-data_of arrival (Hint number m) = Data arrival m ∷ []
-data_of arrival (HintAck number) = []
+abbrev pub data_of : Setting → ℕ → Body → List LogItem
+data_of c arrival (Write m) = Data arrival m ∷ []
+data_of c arrival WriteAck = []
+data_of c arrival (Read q) = []
+data_of c arrival (ReadReply content) = []
+data_of c arrival (Mend m) = if write_fits c m then Data arrival m ∷ [] else []
+data_of c arrival MendAck = []
+data_of c arrival (Hint number m) = Data arrival m ∷ []
+data_of c arrival (HintAck number) = []
 
 -- of a move in a step that rose to this time: they arrive then
 abbrev pub data_by : Setting → ℕ → Act → List LogItem
-data_by c risen (Hears m) = if is_old c risen m.born then [] else data_of risen m.body
+data_by c risen (Hears m) = if is_old c risen m.born then [] else data_of c risen m.body
 data_by c risen (Rises t) = []
 data_by c risen (Asks ask) = []
 data_by c risen (Marks peer up) = []
@@ -75,6 +78,8 @@ gone_by_body a (Write m) s = []
 gone_by_body a WriteAck s = []
 gone_by_body a (Read q) s = []
 gone_by_body a (ReadReply content) s = []
+gone_by_body a (Mend m) s = []
+gone_by_body a MendAck s = []
 gone_by_body a (Hint number m) s = []
 
 abbrev pub gone_by : Setting → NodeState → Act → List Gone

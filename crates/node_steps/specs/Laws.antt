@@ -10,7 +10,7 @@ use Rattle.row_change.specs.Spelling.{ItemFits}
 use Rattle.peer_messages.specs.declared.event.Event.{Event}
 use Rattle.peer_messages.specs.declared.event.What.TheVariants.{Deliver}
 use Rattle.peer_messages.specs.declared.message.Body.{Body}
-use Rattle.peer_messages.specs.declared.message.Body.TheVariants.{ReadReply}
+use Rattle.peer_messages.specs.declared.message.Body.TheVariants.{ReadReply, Mend}
 use Rattle.peer_messages.specs.declared.message.Message.{Message}
 use Rattle.peer_messages.specs.declared.outcome.Outputs.{Outputs}
 use Rattle.peer_messages.specs.declared.setting.Setting.{Setting}
@@ -18,7 +18,7 @@ use Rattle.durable_state.specs.State.{Durable, changes_of}
 use Rattle.durable_state.specs.Keeping.{Commits, IsWithOrWithout}
 use Rattle.node_steps.specs.State.{NodeState, durable_of}
 use Rattle.node_steps.specs.Answering.{IsForReplica, IsAnswer, reply_to}
-use Rattle.node_steps.specs.Fitting.{is_node, changes_fit, mutation_fits, message_fits}
+use Rattle.node_steps.specs.Fitting.{is_node, changes_fit, mutation_fits, write_fits, message_fits}
 use Rattle.node_steps.specs.Holding.{HoldsFit}
 use Rattle.node_steps.specs.Acts.{Deed}
 use Rattle.node_steps.specs.Steps.{NodeStep}
@@ -45,13 +45,14 @@ WhatIsHeldFits =
     (c : Setting) (me : ℕ) (s : NodeState) (e : Event) (deeds : List Deed) (o : Outputs) (s' : NodeState) → NodeStep c me s e deeds o s' → HoldsFit s → HoldsFit s'
 
 -- what a node of the ring sends fits where it comes to, if the mutations that it holds can be written, and the content of a reply
--- can
+-- or of a merge can
 abbrev pub WhatIsSentFits : Type 0
 WhatIsSentFits =
     (c : Setting) (me : ℕ) (s : NodeState) (e : Event) (deeds : List Deed) (o : Outputs) (s' : NodeState) → NodeStep c me s e deeds o s' → IsTrue (is_node c me) → HoldsFit s
-    → (m : Message) → Contains o.sends m → ((content : List Held) → m.body ≡ ReadReply content → IsTrue (changes_fit content)) → IsTrue (message_fits c m.upto m)
+    → (m : Message) → Contains o.sends m → ((content : List Held) → m.body ≡ ReadReply content → IsTrue (changes_fit content))
+    → ((merged : Mutation) → m.body ≡ Mend merged → IsTrue (write_fits c merged)) → IsTrue (message_fits c m.upto m)
 
--- a write, a read or a hint that comes to a node, fits and is not refused is answered in that event
+-- a write, a read, a merge or a hint that comes to a node, fits and is not refused is answered in that event
 abbrev pub ReplicasAnswerAtOnce : Type 0
 ReplicasAnswerAtOnce =
     (c : Setting) (me : ℕ) (s : NodeState) (e : Event) (deeds : List Deed) (o : Outputs) (s' : NodeState) → NodeStep c me s e deeds o s'

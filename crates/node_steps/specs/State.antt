@@ -1,6 +1,6 @@
 -- A node, plainly: what it keeps through stops; and what it forgets at a stop: its time, the nodes that it takes for dead, which
 -- hints it has sent, and the open requests of clients.
-use Rattle.std.specs.Prelude.{ℕ, Bool, List, []}
+use Rattle.std.specs.Prelude.{ℕ, Bool, Option, List, []}
 use Rattle.cs_base.specs.declared.level.Level.{Level}
 use Rattle.cs_base.specs.declared.ids.ReqId.{ReqId}
 use Rattle.changes.specs.declared.Held.{Held}
@@ -27,12 +27,14 @@ pub record Replied : Type 0 where
   pub from : ℕ
   pub content : List Held
 
--- a read that its coordinator has not answered, with the replies of replicas in the order in which they came, and their merge
+-- a read that its coordinator has not answered, with the replies of replicas in the order in which they came, and their merge.
+-- Once there are as many as it waits for, the merge went to those whose reply is another: these have not acknowledged it yet
 pub record OpenRead : Type 0 where
   pub level : Level
   pub query : Query
   pub replies : List Replied
   pub merged : List Held
+  pub mending : Option (List ℕ)
 
 -- the numbers of the hints that went to a peer last and that it has not acknowledged
 pub record Batch : Type 0 where

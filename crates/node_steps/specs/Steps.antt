@@ -81,9 +81,18 @@ pub record Due : Type 0 where
   pub number : ℕ
   pub act : Act
 
--- by moment, and then by request; hints that one request left by peer and number
+-- a request's own deadline comes before the ends of its hints
+abbrev pub kind_of : Act → ℕ
+kind_of (HintExpires peer number) = 1
+kind_of (DeadlineComes request) = 0
+kind_of (Rises time) = 0
+kind_of (Hears incoming) = 0
+kind_of (Asks ask) = 0
+kind_of (Marks peer up) = 0
+
+-- by moment, then by request, and then by kind; hints that one request left by peer and number
 abbrev pub due_cmp : Due → Due → Ordering
-due_cmp a b = ordering_then (nat_cmp a.moment b.moment) (ordering_then (request_cmp a.request b.request) (ordering_then (nat_cmp a.peer b.peer) (nat_cmp a.number b.number)))
+due_cmp a b = ordering_then (nat_cmp a.moment b.moment) (ordering_then (request_cmp a.request b.request) (ordering_then (nat_cmp (kind_of a.act) (kind_of b.act)) (ordering_then (nat_cmp a.peer b.peer) (nat_cmp a.number b.number))))
 
 -- a request is open here, and this is its deadline
 abbrev pub IsDeadline : NodeState → Due → Type 0

@@ -19,7 +19,7 @@ fn clear(slot: &mut Option<Arrived>, x: &Held)
 {
     if let Some(there) = slot {
         if x.outranks(&there.held) {
-            *slot = None;
+            drop(slot.take());
         }
     }
 }

@@ -12,8 +12,7 @@ use crate::lengths::length_with;
 use crate::memory::{Ready, give_back, give_back_unused, stays_bare, take_memory};
 use crate::reading::{copy_all, copy_slice, copy_stored};
 use crate::runs::{length_of, plant};
-use crate::slots::{Slots, stored_at};
-use crate::spots::Spot;
+use crate::slots::{Slots, stored_of_place};
 use crate::taking::put_all;
 use cell_merge::Content;
 use changes::{Bound, Place, encoded_length};
@@ -189,7 +188,7 @@ impl PartitionContent {
         ensures there { IfSome result (λ x. Contains self.now.stored x.now × (x.now.held.place ≡ place)) }
         ensures none { IfNone result (IsVacant self.now.stored place) }
     {
-        stored_at(&self.slots, &Spot::At(place))
+        stored_of_place(&self.slots, place)
     }
 
     /// Whether there are no changes.

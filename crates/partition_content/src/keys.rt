@@ -51,9 +51,14 @@ fn span_in_row(alloc: Global, bare: bool, row: &Bytes) -> Result<Span, AllocErro
 fn copy_span(alloc: Global, from: &Bound, upto: &Bound) -> Result<Span, AllocError>
     ensures { IfOk result (λ span. span ≡ Span.Rows (Spot.Edge from.now) (Spot.Edge upto.now)) }
 {
-    let from = Spot::Edge(from.copy(alloc)?);
-    let upto = Spot::Edge(upto.copy(alloc)?);
-    Ok(Span::Rows(from, upto))
+    let from = Spot::of_bound(alloc, from)?;
+    match Spot::of_bound(alloc, upto) {
+        Ok(upto) => Ok(Span::Rows(from, upto)),
+        Err(error) => {
+            drop(from);
+            Err(error)
+        }
+    }
 }
 
 impl Keys {
@@ -74,9 +79,13 @@ impl Keys {
     pub(crate) fn of(alloc: Global, bare: bool, place: &Place) -> Result<Keys, AllocError>
         ensures { IfOk result (λ keys. keys ≡ keys_for bare place.now) }
     {
-        Ok(Keys {
-            at: Spot::At(place.copy(alloc)?),
-            span: Keys::span(alloc, bare, place)?,
-        })
+        let at = Spot::of_place(alloc, place)?;
+        match Keys::span(alloc, bare, place) {
+            Ok(span) => Ok(Keys { at, span }),
+            Err(error) => {
+                drop(at);
+                Err(error)
+            }
+        }
     }
 }

@@ -3,8 +3,8 @@
 ghost use Rattle.std.specs.Prelude.{◌≡◌, ◌⊎◌, ◌++◌, [], map, IsTrue, IfOk, OnOk, OnErr};
 ghost use Rattle.changes.specs.Contents.{IsMergeOf};
 ghost use Rattle.changes.specs.Places.{AreInOrder};
-ghost use Rattle.partition_content.specs.Arrivals.{held_of};
-ghost use Rattle.partition_content.specs.Partition.{AreBare};
+ghost use Rattle.partition_content.specs.Arrivals.{held_of, ComeAt};
+ghost use Rattle.partition_content.specs.Partition.{AreBare, changes_in};
 ghost use Rattle.partition_content.specs.Runs.{IsLoaded};
 
 use crate::memory::are_narrow;
@@ -62,6 +62,17 @@ fn settle(
     Ok(())
 }
 
+/// Takes changes in at a node time, with the memory that they need.
+fn take_in(content: &mut PartitionContent, incoming: Content, at: Micros) -> Result<(), AllocError>
+    ensures merge { OnOk result (IsMergeOf (changes_in content.new) (changes_in content.old) incoming) }
+    ensures arrivals { OnOk result (ComeAt at content.old.stored content.new.stored) }
+    ensures err { OnErr result (content.new.stored ≡ content.old.stored) }
+{
+    content.reserve(&incoming)?;
+    content.apply(incoming, at);
+    Ok(())
+}
+
 impl Model for LoadedContent {
     ghost use Rattle.std.specs.Prelude.{◌++◌, None};
     ghost use Rattle.partition_content.specs.Partition.{Partition};
@@ -75,9 +86,6 @@ impl Model for LoadedContent {
 }
 
 impl LoadedContent {
-    ghost use Rattle.partition_content.specs.Arrivals.{ComeAt};
-    ghost use Rattle.partition_content.specs.Partition.{changes_in};
-
     /// No changes, without an allocation. Further memory comes from this allocator.
     pub fn new(alloc: Global) -> LoadedContent
         ensures { result.stored ≡ [] }
@@ -109,9 +117,7 @@ impl LoadedContent {
             return push_all(&mut self.run, incoming.into_changes(), at);
         }
         settle(&mut self.run, &mut self.content, self.alloc)?;
-        self.content.reserve(&incoming)?;
-        self.content.apply(incoming, at);
-        Ok(())
+        take_in(&mut self.content, incoming, at)
     }
 
     /// What is kept of the partition then. It makes the tree, if changes came in order alone.

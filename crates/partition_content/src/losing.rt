@@ -63,7 +63,9 @@ pub(crate) fn before_rows(slots: &Slots, alloc: Global) -> Range<'_, Spot, Optio
     ensures { helds_in result ≡ wide_of (helds_in slots.now.entries) }
 {
     let rows = first_row(alloc);
-    slots.range((ops::Bound::Unbounded, ops::Bound::Excluded(&rows)))
+    let walk = slots.range((ops::Bound::Unbounded, ops::Bound::Excluded(&rows)));
+    drop(rows);
+    walk
 }
 
 /// Whether x outranks the change, and none of the others does.

@@ -1,6 +1,6 @@
 //! Memory for changes, taken before they come.
 
-ghost use Rattle.std.specs.Prelude.{◌≡◌, ℕ, List, [], map, ◌&&◌, IfOk, OnOk, Contains};
+ghost use Rattle.std.specs.Prelude.{◌≡◌, ◌∷◌, ◌++◌, ℕ, List, [], map, ◌&&◌, IfOk, OnOk, Contains};
 ghost use Rattle.changes.specs.declared.Place.{Place as place_value};
 ghost use Rattle.partition_content.specs.Slots.{stored_of, helds_of, spots_in, HasSlot, IsGood};
 ghost use Rattle.partition_content.specs.Keys.{keys_for};
@@ -91,6 +91,25 @@ pub(crate) fn give_back_unused(slots: &mut Slots, ready: &Ready)
     }
 }
 
+/// Takes memory for a change, and puts the keys of its place behind those that are there.
+fn take_one(
+    slots: &mut Slots,
+    alloc: Global,
+    bare: bool,
+    x: &Held,
+    keys: &mut Vec<Keys>,
+) -> Result<(), AllocError>
+    requires { IsGood (helds_of slots.old) }
+    ensures stored { stored_of slots.new.entries ≡ stored_of slots.old.entries }
+    ensures good { IsGood (helds_of slots.new) }
+    ensures others { (spot : _) → Contains (spots_in (helds_of slots.old)) spot → Contains (spots_in (helds_of slots.new)) spot }
+    ensures there { OnOk result (HasSlot (helds_of slots.new) x.now.place) }
+    ensures keys { OnOk result (keys.new.items ≡ keys.old.items ++ (keys_for bare x.now.place ∷ [])) }
+{
+    keys.push(Keys::of(alloc, bare, &x.place)?)?;
+    make_slot(slots, alloc, &x.place)
+}
+
 /// Takes memory for changes, and puts the keys of their places behind those that are there.
 fn take_each(
     slots: &mut Slots,
@@ -107,9 +126,7 @@ fn take_each(
     ensures there { OnOk result (AreSlotsFor (helds_of slots.new) changes.now) }
 {
     for x in changes {
-        let own = Keys::of(alloc, bare, &x.place)?;
-        make_slot(slots, alloc, &own.at)?;
-        keys.push(own)?;
+        take_one(slots, alloc, bare, x, keys)?;
     }
     Ok(())
 }

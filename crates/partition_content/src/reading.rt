@@ -5,15 +5,18 @@ ghost use Rattle.std.specs.Option.{option_to_list};
 ghost use Rattle.changes.specs.declared.Held.{Held as held_value};
 ghost use Rattle.changes.specs.declared.Place.{Place as place_value};
 ghost use Rattle.std.specs.declared.cmp.Ordering.TheVariants.{Less};
+ghost use Rattle.std.specs.BTreeMap.Range.{entries_between};
 ghost use Rattle.std.specs.List.Sorted.{IsStrictlySortedBy};
+ghost use Rattle.std.specs.declared.ops.Bound.TheVariants.{Excluded};
 ghost use Rattle.changes.specs.Places.{bound_cmp, AreInOrder};
 ghost use Rattle.changes.specs.Queries.{MeetsBounds};
 ghost use Rattle.partition_content.specs.Spots.{spot_cmp};
+ghost use Rattle.partition_content.specs.declared.spots.Spot.TheVariants.{Edge};
 ghost use Rattle.partition_content.specs.Slots.{stored_of, held_in, helds_in, helds_of, spots_in, changes_of, AreFiled};
 ghost use Rattle.partition_content.specs.Reading.{wide_of, rows_of, first_row as first_key, IsAdded};
 
 use crate::Arrived;
-use crate::losing::before_rows;
+use crate::losing::{before_rows, between};
 use crate::slots::{Slots, begins_wide, whole};
 use crate::spots::Spot;
 use changes::{Bound, Held};
@@ -21,7 +24,6 @@ use cs_base::Bytes;
 use std::alloc::{AllocError, Global};
 use std::cmp::Ordering;
 use std::collections::btree_map::Range;
-use std::ops;
 
 /// A key behind those of the deletions of ranges and of the partition, and before those of the rows.
 pub(crate) fn first_row(alloc: Global) -> Spot
@@ -112,6 +114,37 @@ fn copy_each(
     Ok(())
 }
 
+/// Puts copies of the changes between two keys, the first of which is before the second, behind those that are there.
+fn copy_ahead(
+    onto: &mut Vec<Held>,
+    alloc: Global,
+    slots: &Slots,
+    low: &Spot,
+    high: &Spot,
+) -> Result<(), AllocError>
+    requires { spot_cmp low.now high.now ≡ Less }
+    ensures { OnOk result (onto.new.items ≡ onto.old.items ++ changes_of (entries_between spot_cmp (Excluded low.now) (Excluded high.now) (helds_in slots.now.entries))) }
+{
+    copy_each(onto, alloc, between(slots, low, high))
+}
+
+/// Puts copies of the changes between a key and a bound that is behind it behind those that are there.
+fn copy_behind(
+    onto: &mut Vec<Held>,
+    alloc: Global,
+    slots: &Slots,
+    low: &Spot,
+    upto: &Bound,
+) -> Result<(), AllocError>
+    requires { spot_cmp low.now (Edge upto.now) ≡ Less }
+    ensures { OnOk result (onto.new.items ≡ onto.old.items ++ changes_of (entries_between spot_cmp (Excluded low.now) (Excluded (Edge upto.now)) (helds_in slots.now.entries))) }
+{
+    let high = Spot::of_bound(alloc, upto)?;
+    let copied = copy_ahead(onto, alloc, slots, low, &high);
+    drop(high);
+    copied
+}
+
 /// Puts copies of the changes of the rows between two bounds behind those that are there. They all meet the bounds.
 fn copy_between(
     onto: &mut Vec<Held>,
@@ -123,10 +156,10 @@ fn copy_between(
     requires { bound_cmp from.now upto.now ≡ Less }
     ensures { OnOk result (onto.new.items ≡ onto.old.items ++ changes_of (rows_of from.now upto.now (helds_in slots.now.entries))) }
 {
-    let low = Spot::Edge(from.copy(alloc)?);
-    let high = Spot::Edge(upto.copy(alloc)?);
-    let walk = slots.range((ops::Bound::Excluded(&low), ops::Bound::Excluded(&high)));
-    copy_each(onto, alloc, walk)
+    let low = Spot::of_bound(alloc, from)?;
+    let copied = copy_behind(onto, alloc, slots, &low, upto);
+    drop(low);
+    copied
 }
 
 /// Puts copies of the changes of the rows between the bounds, if the first is before the second, behind those that are there.

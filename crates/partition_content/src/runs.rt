@@ -1,6 +1,6 @@
 //! Cells and markers in the order of their places, of which a tree is made at once.
 
-ghost use Rattle.std.specs.Prelude.{◌≡◌, ◌∷◌, ◌++◌, ◌+◌, ◌≤◌, [], map, IsTrue, IfOk, IfSome, OnOk, OnErr, Contains, vec_len, vec_capacity};
+ghost use Rattle.std.specs.Prelude.{◌≡◌, ◌∷◌, ◌++◌, ◌+◌, ◌≤◌, [], Some, map, IsTrue, IfOk, IfSome, OnOk, OnErr, Contains, vec_len, vec_capacity};
 ghost use Rattle.std.specs.BTreeMap.{IsFromIterResult};
 ghost use Rattle.std.specs.declared.cmp.Ordering.TheVariants.{Less};
 ghost use Rattle.changes.specs.declared.Held.{Held as held_value};
@@ -9,6 +9,7 @@ ghost use Rattle.changes.specs.Places.{stored_cmp, AreInOrder};
 ghost use Rattle.partition_content.specs.Arrivals.{held_of};
 ghost use Rattle.partition_content.specs.Runs.{arrived_at, entry_of};
 ghost use Rattle.partition_content.specs.Spots.{spot_cmp};
+ghost use Rattle.partition_content.specs.declared.spots.Spot.TheVariants.{At};
 
 use crate::Arrived;
 use crate::slots::Slots;
@@ -99,14 +100,49 @@ pub(crate) fn length_of(run: &[Arrived]) -> Option<u64>
     Some(length)
 }
 
+/// The key of a change.
+fn key_of(alloc: Global, x: &Arrived) -> Result<Spot, AllocError>
+    ensures { IfOk result (λ at. at ≡ At x.now.held.place) }
+{
+    Spot::of_place(alloc, &x.held.place)
+}
+
+/// Puts a change at this key behind the entries that are there.
+fn push_entry(
+    entries: &mut Vec<(Spot, Option<Arrived>)>,
+    at: Spot,
+    x: Arrived,
+) -> Result<(), AllocError>
+    ensures { OnOk result (entries.new.items ≡ entries.old.items ++ ((at, Some x) ∷ [])) }
+{
+    entries.push((at, Some(x)))?;
+    Ok(())
+}
+
+/// Puts a change with its key behind the entries that are there.
+fn add_entry(
+    entries: &mut Vec<(Spot, Option<Arrived>)>,
+    alloc: Global,
+    x: Arrived,
+) -> Result<(), AllocError>
+    ensures { OnOk result (entries.new.items ≡ entries.old.items ++ (entry_of x ∷ [])) }
+{
+    match key_of(alloc, &x) {
+        Ok(at) => push_entry(entries, at, x),
+        Err(error) => {
+            drop(x);
+            Err(error)
+        }
+    }
+}
+
 /// The changes with their keys.
 fn entries_of(alloc: Global, run: Vec<Arrived>) -> Result<Vec<(Spot, Option<Arrived>)>, AllocError>
     ensures { IfOk result (λ entries. entries.items ≡ map entry_of run.items) }
 {
     let mut entries = Vec::with_capacity(alloc, run.len())?;
     for x in run {
-        let at = Spot::At(x.held.place.copy(alloc)?);
-        entries.push((at, Some(x)))?;
+        add_entry(&mut entries, alloc, x)?;
     }
     Ok(entries)
 }

@@ -12,11 +12,12 @@ ghost use Rattle.std.specs.Option.{option_to_list};
 ghost use Rattle.std.specs.List.{sum_by};
 ghost use Rattle.changes.specs.Lengths.{held_length};
 ghost use Rattle.partition_content.specs.Spots.{spot_cmp};
-ghost use Rattle.partition_content.specs.Slots.{stored_of, stored_in, held_in, helds_in, helds_of, spots_in, slot_at, changes_of, change_in, AreFiled, IsPutIn, ComesIn, IsPutAt, is_wide_spot};
+ghost use Rattle.partition_content.specs.declared.spots.Spot.TheVariants.{At};
+ghost use Rattle.partition_content.specs.Slots.{stored_of, stored_in, held_in, helds_in, helds_of, spots_in, slot_at, changes_of, change_in, AreFiled, HasSlot, IsReachedAt, IsPutIn, ComesIn, IsPutAt, is_wide_spot};
 
 use crate::Arrived;
 use crate::spots::Spot;
-use changes::Held;
+use changes::{Held, Place};
 use cs_base::Micros;
 use std::alloc::{AllocError, Global};
 use std::cmp::Ordering;
@@ -34,6 +35,16 @@ pub(crate) fn stored_at<'a>(slots: &'a Slots, at: &Spot) -> Option<&'a Arrived>
         Some(Some(x)) => Some(x),
         _ => None,
     }
+}
+
+/// What is stored at a place.
+pub(crate) fn stored_of_place(slots: &Slots, place: Place) -> Option<&Arrived>
+    ensures { option_copied result ≡ stored_in (get spot_cmp slots.now (At place)) }
+{
+    let at = Spot::At(place);
+    let stored = stored_at(slots, &at);
+    drop(at);
+    stored
 }
 
 /// The change at a key.
@@ -57,16 +68,26 @@ fn make_at(slots: &mut Slots, at: Spot) -> Result<(), AllocError>
     Ok(())
 }
 
-/// Takes memory for a change at a key.
-pub(crate) fn make_slot(slots: &mut Slots, alloc: Global, at: &Spot) -> Result<(), AllocError>
+/// Takes memory for a change at the key of its place.
+pub(crate) fn make_slot(slots: &mut Slots, alloc: Global, place: &Place) -> Result<(), AllocError>
     ensures stored { stored_of slots.new.entries ≡ stored_of slots.old.entries }
-    ensures there { OnOk result (Contains (spots_in (helds_of slots.new)) at.now) }
+    ensures there { OnOk result (HasSlot (helds_of slots.new) place.now) }
     ensures others { (spot : _) → Contains (spots_in (helds_of slots.old)) spot → Contains (spots_in (helds_of slots.new)) spot }
     ensures filed { AreFiled (helds_in slots.old.entries) → AreFiled (helds_in slots.new.entries) }
     ensures sorted { IsStrictlySortedBy spot_cmp (spots_in (helds_of slots.old)) → IsStrictlySortedBy spot_cmp (spots_in (helds_of slots.new)) }
 {
-    make_at(slots, at.copy(alloc)?)?;
+    make_at(slots, Spot::of_place(alloc, place)?)?;
     Ok(())
+}
+
+/// Puts a change in a slot.
+fn fill(slot: &mut Option<Arrived>, x: Held, time: Micros)
+    ensures { slot.new ≡ Some (record { held = x; arrival = time }) }
+{
+    drop(slot.replace(Arrived {
+        held: x,
+        arrival: time,
+    }));
 }
 
 /// Puts a change in at a key where there is memory for it.
@@ -75,11 +96,30 @@ pub(crate) fn put_at(slots: &mut Slots, at: &Spot, x: Held, time: Micros)
     ensures entries { slots.new.entries ≡ set_value (is_at (spot_cmp at.now)) slots.old.entries (Some (record { held = x; arrival = time })) }
     ensures keys { keys slots.new ≡ keys slots.old }
 {
-    if let Some(slot) = slots.get_mut(at) {
-        *slot = Some(Arrived {
-            held: x,
-            arrival: time,
-        });
+    match slots.get_mut(at) {
+        Some(slot) => fill(slot, x, time),
+        None => drop(x),
+    }
+}
+
+/// Whether the change in a slot is this one or beats it, where both are of one place.
+fn is_reached_in(slot: &Option<Arrived>, x: &Held) -> bool
+    ensures { IsTrue result ↔ IsReachedAt (held_in slot.now) x.now }
+{
+    match slot {
+        Some(there) => there.held.rank(x) != Ordering::Less,
+        None => false,
+    }
+}
+
+/// The length of the change in a slot.
+fn length_in(slot: &Option<Arrived>) -> u64
+    requires { sum_by held_length (option_to_list (held_in slot.now)) < 2 ^ 64 }
+    ensures { result ≡ sum_by held_length (option_to_list (held_in slot.now)) }
+{
+    match slot {
+        Some(there) => there.held.encoded_length(),
+        None => 0,
     }
 }
 
@@ -91,18 +131,13 @@ fn put_in(slot: &mut Option<Arrived>, length: u64, x: Held, time: Micros) -> u64
     ensures put { IsPutIn x (held_in slot.old) (held_in slot.new) length result }
     ensures comes { ComesIn time x slot.old slot.new }
 {
-    let mut others = length;
-    if let Some(there) = slot {
-        if there.held.rank(&x) != Ordering::Less {
-            return length;
-        }
-        others -= there.held.encoded_length();
+    if is_reached_in(slot, &x) {
+        drop(x);
+        return length;
     }
+    let others = length - length_in(slot);
     let gained = x.encoded_length();
-    *slot = Some(Arrived {
-        held: x,
-        arrival: time,
-    });
+    fill(slot, x, time);
     others + gained
 }
 
@@ -116,7 +151,10 @@ pub(crate) fn put_own(slots: &mut Slots, length: u64, at: &Spot, x: Held, time: 
 {
     match slots.get_mut(at) {
         Some(slot) => put_in(slot, length, x, time),
-        None => length,
+        None => {
+            drop(x);
+            length
+        }
     }
 }
 
@@ -137,7 +175,7 @@ pub(crate) fn drop_unused(slots: &mut Slots, at: &Spot)
     ensures sorted { IsStrictlySortedBy spot_cmp (spots_in (helds_of slots.old)) → IsStrictlySortedBy spot_cmp (spots_in (helds_of slots.new)) }
 {
     if is_unused(slots, at) {
-        slots.remove(at);
+        drop(slots.remove(at));
     }
 }
 

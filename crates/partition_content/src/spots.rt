@@ -21,13 +21,27 @@ pub(crate) enum Spot {
 }
 
 impl Spot {
+    /// The key of a place, in memory of its own.
+    pub(crate) fn of_place(alloc: Global, place: &Place) -> Result<Spot, AllocError>
+        ensures { IfOk result (λ spot. spot ≡ Spot.At place.now) }
+    {
+        Ok(Spot::At(place.copy(alloc)?))
+    }
+
+    /// A bound among the keys, in memory of its own.
+    pub(crate) fn of_bound(alloc: Global, bound: &Bound) -> Result<Spot, AllocError>
+        ensures { IfOk result (λ spot. spot ≡ Spot.Edge bound.now) }
+    {
+        Ok(Spot::Edge(bound.copy(alloc)?))
+    }
+
     /// An equal key, in memory of its own.
     pub(crate) fn copy(&self, alloc: Global) -> Result<Spot, AllocError>
         ensures { IfOk result (λ copy. copy ≡ self.now) }
     {
         match self {
-            Spot::At(place) => Ok(Spot::At(place.copy(alloc)?)),
-            Spot::Edge(bound) => Ok(Spot::Edge(bound.copy(alloc)?)),
+            Spot::At(place) => Spot::of_place(alloc, place),
+            Spot::Edge(bound) => Spot::of_bound(alloc, bound),
         }
     }
 }

@@ -18,8 +18,7 @@ ghost use Rattle.partition_content.specs.Partition.{place_of, AreSlotsFor, AreBa
 use crate::Arrived;
 use crate::clearing::clear_inside;
 use crate::keys::{Keys, Span};
-use crate::losing::lost_by;
-use crate::reading::first_row;
+use crate::losing::{before_rows, lost_by};
 use crate::slots::{Slots, begins_wide, change_at, put_at, put_own};
 use crate::spots::Spot;
 use cell_merge::Rivals;
@@ -27,7 +26,6 @@ use changes::Held;
 use cs_base::Micros;
 use std::alloc::Global;
 use std::cmp::Ordering;
-use std::ops;
 
 /// Whether the change at the key is this one or beats it, where both are of one place.
 pub(crate) fn is_reached_at(slots: &Slots, at: &Spot, x: &Held) -> bool
@@ -67,8 +65,7 @@ fn is_outranked_by_wide(slots: &Slots, alloc: Global, x: &Held) -> bool
     if !begins_wide(slots) {
         return false;
     }
-    let rows = first_row(alloc);
-    for (_, slot) in slots.range((ops::Bound::Unbounded, ops::Bound::Excluded(&rows))) {
+    for (_, slot) in before_rows(slots, alloc) {
         if is_outranked_in(slot, x) {
             return true;
         }
@@ -124,6 +121,17 @@ fn clear(slots: &mut Slots, at: &Spot, inside: &[Spot], x: &Held, lost: u64)
     }
 }
 
+/// The length of the changes that x outranks.
+fn lost_alone(slots: &Slots, alloc: Global, own: &Keys, x: &Held) -> u64
+    requires keys { AreKeysOf own.now x.now.place }
+    requires good { IsGood (helds_of slots.now) }
+    requires fits { sum_by held_length (changes_of (helds_in slots.now.entries)) < 2 ^ 64 }
+    ensures { IsLengthOf (IsNewlyOutranked [] x.now) (helds_in slots.now.entries) result }
+{
+    let none = Rivals::new(&[]);
+    lost_by(slots, alloc, own, &none, x)
+}
+
 /// Takes in a deletion of rows for which there is memory, and gives the length that the changes then have.
 fn put_deletion(
     slots: &mut Slots,
@@ -145,10 +153,10 @@ fn put_deletion(
     ensures comes { ComesAlone time x slots.old.entries slots.new.entries }
 {
     if is_reached_at(slots, &own.at, &x) {
+        drop(x);
         return length;
     }
-    let alone = Rivals::new(&[]);
-    let lost = lost_by(slots, alloc, own, &alone, &x);
+    let lost = lost_alone(slots, alloc, own, &x);
     let gained = x.encoded_length();
     clear(slots, &own.at, inside, &x, lost);
     put_at(slots, &own.at, x, time);
@@ -193,6 +201,7 @@ pub(crate) fn put(
     ensures comes { ComesAlone time x slots.old.entries slots.new.entries }
 {
     if is_outranked_over(slots, alloc, bare, own, &x) {
+        drop(x);
         return length;
     }
     match &own.span {

@@ -1,64 +1,59 @@
 //! Values by place and by name.
 
-use cs_base::{Bytes, Items};
+use crate::given::{Given, bytes, list};
 use statement_values::{Param, Params, Supplier};
 use std::alloc::{AllocError, Global};
 use std::collections::BTreeMap;
+use std::fmt::Write;
 use std::test::Fail;
 
-/// What was given: one byte, or how none was.
-#[derive(Clone, Copy, Debug, PartialEq, Eq)]
-enum Seen {
-    Missing,
-    Null,
-    NotSet,
-    Byte(u8),
-}
-
-fn outcome(param: Option<&Param>) -> Seen {
-    match param {
-        None => Seen::Missing,
-        Some(Param::Null) => Seen::Null,
-        Some(Param::NotSet) => Seen::NotSet,
-        Some(Param::Given(bytes)) => Seen::Byte(bytes.as_slice().first().copied().unwrap_or(0)),
+/// `null`, `unset`, or bytes.
+impl Given for Param {
+    fn given(alloc: Global, word: &str) -> Result<Param, AllocError> {
+        match word {
+            "null" => Ok(Param::Null),
+            "unset" => Ok(Param::NotSet),
+            word => Ok(Param::Given(bytes(alloc, word)?)),
+        }
     }
 }
 
-fn byte(alloc: Global, byte: u8) -> Result<Param, AllocError> {
-    Ok(Param::Given(Bytes::from_slice(alloc, &[byte])?))
+/// What the markers of these names take, each with whether values are left behind it.
+fn taken(alloc: Global, params: &Params, names: &str) -> Result<String, AllocError> {
+    let mut supplier = Supplier::new(params);
+    let mut taken = String::new(alloc);
+    for name in names.split_whitespace() {
+        let param = supplier.take(name);
+        let has_left = supplier.has_left();
+        write!(taken, "{param:?} {has_left}; ")?;
+    }
+    Ok(taken)
 }
 
-#[test]
-fn markers_take_the_values_in_their_order(rt: HostRuntime) -> Result<(), Fail> {
-    let alloc = rt.alloc();
-    let mut values = Items::new(alloc);
-    values.push(byte(alloc, 1)?)?;
-    values.push(Param::Null)?;
-    values.push(Param::NotSet)?;
-    let params = Params::ByPlace(values);
-    let mut supplier = Supplier::new(&params);
-    assert_eq!(rt; outcome(supplier.take("a")), Seen::Byte(1));
-    assert_eq!(rt; outcome(supplier.take("a")), Seen::Null);
-    assert!(rt; supplier.has_left());
-    assert_eq!(rt; outcome(supplier.take("b")), Seen::NotSet);
-    assert!(rt; !supplier.has_left());
-    assert_eq!(rt; outcome(supplier.take("a")), Seen::Missing);
-    assert_eq!(rt; outcome(Supplier::empty().take("a")), Seen::Missing);
-    Ok(())
+fn taken_by_place(alloc: Global, values: &str, names: &str) -> Result<String, AllocError> {
+    taken(alloc, &Params::ByPlace(list(alloc, values)?), names)
 }
 
-#[test]
-fn markers_take_the_values_of_their_names(rt: HostRuntime) -> Result<(), Fail> {
-    let alloc = rt.alloc();
+/// Of values for `n` and `c`.
+fn taken_by_name(alloc: Global, names: &str) -> Result<String, AllocError> {
     let mut values = BTreeMap::new(alloc);
-    values.insert(String::from_str(alloc, "n")?, byte(alloc, 5)?)?;
-    values.insert(String::from_str(alloc, "c")?, byte(alloc, 6)?)?;
-    let params = Params::ByName(values);
-    let mut supplier = Supplier::new(&params);
-    assert_eq!(rt; outcome(supplier.take("n")), Seen::Byte(5));
-    assert_eq!(rt; outcome(supplier.take("n")), Seen::Byte(5));
-    assert_eq!(rt; outcome(supplier.take("c")), Seen::Byte(6));
-    assert_eq!(rt; outcome(supplier.take("m")), Seen::Missing);
-    assert!(rt; !supplier.has_left());
+    for (name, word) in &[("n", "05"), ("c", "06")] {
+        values.insert(String::from_str(alloc, name)?, Param::given(alloc, word)?)?;
+    }
+    taken(alloc, &Params::ByName(values), names)
+}
+
+#[test]
+fn markers_take_the_values(rt: HostRuntime) -> Result<(), Fail> {
+    let alloc = rt.alloc();
+    assert_eq!(rt;
+        taken_by_place(alloc, "01 null unset", "a a b a")?.as_str(),
+        "Some(Given([1])) true; Some(Null) true; Some(NotSet) false; None false; "
+    );
+    assert_eq!(rt;
+        taken_by_name(alloc, "n n c m")?.as_str(),
+        "Some(Given([5])) false; Some(Given([5])) false; Some(Given([6])) false; None false; "
+    );
+    assert!(rt; Supplier::empty().take("a").is_none());
     Ok(())
 }

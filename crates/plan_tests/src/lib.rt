@@ -5,3 +5,5 @@
 mod markers;
 #[cfg(test)]
 mod plans;
+#[cfg(test)]
+mod schemas;

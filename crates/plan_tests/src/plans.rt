@@ -3,14 +3,15 @@
 //! A row is a statement, ` ## ` and values for its markers if there are any, ` => `, and the plan as it is printed here. Where
 //! each statement of a batch has its own values, ` | ` stands between their lists.
 
+use crate::schemas::{schema_of, statement_of};
 use changes::{Bound, Draft, Drafts, Partition, Place, Query};
-use cql_parser::parse;
-use cql_statement::Statements;
+use cql_statement::Statement;
 use cs_base::{Bytes, Items};
+use prepared_statement::Prepared;
 use schema_book::Schema;
 use statement_binder::{BindError, Values, bind, fill, prepare};
 use statement_plan::{CellTest, Columns, ConditionalOperation, Fault, Feature, Plan, Test};
-use statement_values::{Param, Params};
+use statement_values::{Param, ParamList, Params};
 use std::alloc::{AllocError, Global};
 use std::collections::BTreeMap;
 use std::fmt::Write;
@@ -61,13 +62,16 @@ fn print_place(out: &mut String, place: &Place) -> Result<(), Fail> {
     Ok(())
 }
 
+fn print_given(out: &mut String, bytes: &[u8]) -> Result<(), Fail> {
+    write!(out, "[")?;
+    print_bytes(out, bytes)?;
+    write!(out, "]")?;
+    Ok(())
+}
+
 fn print_value(out: &mut String, value: &Option<Bytes>) -> Result<(), Fail> {
     match value {
-        Some(bytes) => {
-            write!(out, "[")?;
-            print_bytes(out, bytes.as_slice())?;
-            write!(out, "]")?;
-        }
+        Some(bytes) => print_given(out, bytes.as_slice())?,
         None => write!(out, "[null]")?,
     }
     Ok(())
@@ -95,14 +99,17 @@ fn print_partition(out: &mut String, partition: &Partition) -> Result<(), Fail> 
     print_bytes(out, partition.key.as_slice())
 }
 
+fn print_numbers(out: &mut String, numbers: &[u8]) -> Result<(), Fail> {
+    write!(out, " columns")?;
+    for number in numbers {
+        write!(out, " {number}")?;
+    }
+    Ok(())
+}
+
 fn print_columns(out: &mut String, columns: &Columns) -> Result<(), Fail> {
     match columns {
-        Columns::Listed(numbers) => {
-            write!(out, " columns")?;
-            for number in numbers.as_slice() {
-                write!(out, " {number}")?;
-            }
-        }
+        Columns::Listed(numbers) => print_numbers(out, numbers.as_slice())?,
         Columns::Count => write!(out, " count")?,
     }
     Ok(())
@@ -173,11 +180,10 @@ fn print_plan(out: &mut String, plan: &Plan) -> Result<(), Fail> {
     Ok(())
 }
 
-fn print_outcome(out: &mut String, outcome: &Result<Plan, BindError>) -> Result<(), Fail> {
-    match outcome {
-        Ok(plan) => print_plan(out, plan)?,
-        Err(BindError::Refused(fault)) => write!(out, "{fault:?}")?,
-        Err(BindError::NoMemory) => write!(out, "no memory")?,
+fn print_refusal(out: &mut String, error: BindError) -> Result<(), Fail> {
+    match error {
+        BindError::Refused(fault) => write!(out, "{fault:?}")?,
+        BindError::NoMemory => write!(out, "no memory")?,
     }
     Ok(())
 }
@@ -193,21 +199,6 @@ CREATE TABLE ks.types (k int PRIMARY KEY, a ascii, b bigint, c blob, d boolean, 
 CREATE TABLE ks.text (k int, c text, v int, PRIMARY KEY (k, c))
 CREATE TABLE ks.wide (k text PRIMARY KEY, a text, b text, c text, d text, e text)
 CREATE TABLE ks.pair (k text, c text, v text, PRIMARY KEY (k, c))";
-
-fn statements(alloc: Global) -> Result<Statements, Fail> {
-    let mut statements = Items::new(alloc);
-    for line in TABLES.lines() {
-        if let Ok(statement) = parse(alloc, line) {
-            statements.push(statement)?;
-        }
-    }
-    Ok(statements)
-}
-
-fn schema(alloc: Global) -> Result<Schema, Fail> {
-    let statements = statements(alloc)?;
-    Ok(Schema::from_statements(alloc, &statements, 3, 1, 864_000)?)
-}
 
 /// An int behind `#`, a bigint behind `##`, or a text behind `'`.
 fn given(alloc: Global, word: &str) -> Result<Bytes, AllocError> {
@@ -230,20 +221,33 @@ fn param(alloc: Global, word: &str) -> Result<Param, AllocError> {
     }
 }
 
+fn add_param(values: &mut ParamList, alloc: Global, word: &str) -> Result<(), AllocError> {
+    values.push(param(alloc, word)?)?;
+    Ok(())
+}
+
 fn params_by_place(alloc: Global, words: &str) -> Result<Params, AllocError> {
     let mut values = Items::new(alloc);
     for word in words.split_whitespace() {
-        values.push(param(alloc, word)?)?;
+        add_param(&mut values, alloc, word)?;
     }
     Ok(Params::ByPlace(values))
+}
+
+type ParamMap = BTreeMap<String, Param>;
+
+/// Adds a value with its name, and `=` between them.
+fn add_named(values: &mut ParamMap, alloc: Global, word: &str) -> Result<(), AllocError> {
+    let (name, value) = word.split_once('=').unwrap_or((word, ""));
+    let value = param(alloc, value)?;
+    values.insert(String::from_str(alloc, name)?, value)?;
+    Ok(())
 }
 
 fn params_by_name(alloc: Global, words: &str) -> Result<Params, AllocError> {
     let mut values = BTreeMap::new(alloc);
     for word in words.split_whitespace() {
-        if let Some((name, value)) = word.split_once('=') {
-            values.insert(String::from_str(alloc, name)?, param(alloc, value)?)?;
-        }
+        add_named(&mut values, alloc, word)?;
     }
     Ok(Params::ByName(values))
 }
@@ -256,20 +260,82 @@ fn params(alloc: Global, words: &str) -> Result<Params, AllocError> {
     }
 }
 
+fn add_list(lists: &mut Items<Params>, alloc: Global, words: &str) -> Result<(), AllocError> {
+    lists.push(params(alloc, words)?)?;
+    Ok(())
+}
+
 /// A list of values for each statement.
-fn lists(alloc: Global, words: &str) -> Result<Items<Params>, Fail> {
+fn lists(alloc: Global, words: &str) -> Result<Items<Params>, AllocError> {
     let mut lists = Items::new(alloc);
     for list in words.split('|') {
-        lists.push(params(alloc, list)?)?;
+        add_list(&mut lists, alloc, list)?;
     }
     Ok(lists)
 }
 
 // ---- rows
 
-fn print_unparsed(out: &mut String) -> Result<(), Fail> {
-    write!(out, "not parsed")?;
-    Ok(())
+/// What a row asks for.
+#[derive(Clone, Copy)]
+struct Asked<'a> {
+    /// The keyspace in use.
+    used: Option<&'a str>,
+    text: &'a str,
+    /// The timestamp that the protocol gives.
+    timestamp: Option<i64>,
+}
+
+/// A statement, with `ks` in use where it begins with a space.
+fn asked_by(text: &str) -> Asked {
+    Asked {
+        used: if text.starts_with(' ') {
+            Some("ks")
+        } else {
+            None
+        },
+        text,
+        timestamp: None,
+    }
+}
+
+fn print_bound_plan(out: &mut String, plan: Plan) -> Result<(), Fail> {
+    print_plan(out, &plan)
+}
+
+fn print_bound_statement(
+    out: &mut String,
+    alloc: Global,
+    schema: &Schema,
+    asked: Asked,
+    statement: &Statement,
+    values: &Params,
+) -> Result<(), Fail> {
+    match bind(
+        alloc,
+        schema,
+        asked.used,
+        statement,
+        values,
+        asked.timestamp,
+    ) {
+        Ok(plan) => print_bound_plan(out, plan),
+        Err(error) => print_refusal(out, error),
+    }
+}
+
+fn print_bound_statements(
+    out: &mut String,
+    alloc: Global,
+    schema: &Schema,
+    asked: Asked,
+    statements: &[Statement],
+    values: &Params,
+) -> Result<(), Fail> {
+    match statements {
+        [statement] => print_bound_statement(out, alloc, schema, asked, statement, values),
+        _ => Ok(()),
+    }
 }
 
 /// Prints the plan of a statement.
@@ -277,17 +343,59 @@ fn print_bound(
     out: &mut String,
     alloc: Global,
     schema: &Schema,
-    used: Option<&str>,
-    text: &str,
+    asked: Asked,
     values: &Params,
-    timestamp: Option<i64>,
 ) -> Result<(), Fail> {
-    match parse(alloc, text) {
-        Ok(statement) => {
-            let plan = bind(alloc, schema, used, &statement, values, timestamp);
-            print_outcome(out, &plan)
-        }
-        Err(_) => print_unparsed(out),
+    let statement = statement_of(alloc, asked.text)?;
+    print_bound_statements(out, alloc, schema, asked, statement.as_slice(), values)
+}
+
+fn print_fill(
+    out: &mut String,
+    alloc: Global,
+    prepared: &Prepared,
+    values: Values,
+) -> Result<(), Fail> {
+    match fill(alloc, prepared, values, None) {
+        Ok(plan) => print_bound_plan(out, plan),
+        Err(error) => print_refusal(out, error),
+    }
+}
+
+fn print_prepared(
+    out: &mut String,
+    alloc: Global,
+    prepared: Prepared,
+    values: Values,
+) -> Result<(), Fail> {
+    print_fill(out, alloc, &prepared, values)
+}
+
+fn print_filled_statement(
+    out: &mut String,
+    alloc: Global,
+    schema: &Schema,
+    used: Option<&str>,
+    statement: &Statement,
+    values: Values,
+) -> Result<(), Fail> {
+    match prepare(alloc, schema, used, statement) {
+        Ok(prepared) => print_prepared(out, alloc, prepared, values),
+        Err(error) => print_refusal(out, error),
+    }
+}
+
+fn print_filled_statements(
+    out: &mut String,
+    alloc: Global,
+    schema: &Schema,
+    used: Option<&str>,
+    statements: &[Statement],
+    values: Values,
+) -> Result<(), Fail> {
+    match statements {
+        [statement] => print_filled_statement(out, alloc, schema, used, statement, values),
+        _ => Ok(()),
     }
 }
 
@@ -296,60 +404,79 @@ fn print_filled(
     out: &mut String,
     alloc: Global,
     schema: &Schema,
-    used: Option<&str>,
-    text: &str,
+    asked: Asked,
     values: Values,
 ) -> Result<(), Fail> {
-    match parse(alloc, text) {
-        Ok(statement) => match prepare(alloc, schema, used, &statement) {
-            Ok(prepared) => print_outcome(out, &fill(alloc, &prepared, values, None)),
-            Err(error) => print_outcome(out, &Err(error)),
-        },
-        Err(_) => print_unparsed(out),
+    let statement = statement_of(alloc, asked.text)?;
+    print_filled_statements(out, alloc, schema, asked.used, statement.as_slice(), values)
+}
+
+fn print_with_lists(
+    out: &mut String,
+    alloc: Global,
+    schema: &Schema,
+    asked: Asked,
+    words: &str,
+) -> Result<(), Fail> {
+    let lists = lists(alloc, words)?;
+    print_filled(out, alloc, schema, asked, Values::Each(lists.as_slice()))
+}
+
+fn print_with_params(
+    out: &mut String,
+    alloc: Global,
+    schema: &Schema,
+    asked: Asked,
+    words: &str,
+) -> Result<(), Fail> {
+    let values = params(alloc, words)?;
+    print_bound(out, alloc, schema, asked, &values)
+}
+
+fn print_with(
+    out: &mut String,
+    alloc: Global,
+    schema: &Schema,
+    asked: Asked,
+    words: &str,
+) -> Result<(), Fail> {
+    if words.contains('|') {
+        print_with_lists(out, alloc, schema, asked, words)
+    } else {
+        print_with_params(out, alloc, schema, asked, words)
     }
 }
 
-/// The plan of a statement, with `ks` in use where it begins with a space.
-fn outcome(alloc: Global, schema: &Schema, text: &str, words: &str) -> Result<String, Fail> {
-    let used = if text.starts_with(' ') {
-        Some("ks")
-    } else {
-        None
-    };
+/// The plan of a statement.
+fn outcome(alloc: Global, schema: &Schema, asked: Asked, words: &str) -> Result<String, Fail> {
     let mut out = String::new(alloc);
-    if words.contains('|') {
-        let lists = lists(alloc, words)?;
-        let values = Values::Each(lists.as_slice());
-        print_filled(&mut out, alloc, schema, used, text, values)?;
-    } else {
-        let values = params(alloc, words)?;
-        print_bound(&mut out, alloc, schema, used, text, &values, None)?;
-    }
+    print_with(&mut out, alloc, schema, asked, words)?;
     Ok(out)
 }
 
-/// Adds a row as it is, where it is wrong.
-fn add_wrong(out: &mut String, alloc: Global, schema: &Schema, row: &str) -> Result<(), Fail> {
-    let (asked, expected) = row.split_once(" => ").unwrap_or((row, ""));
-    let (text, words) = asked.split_once(" ## ").unwrap_or((asked, ""));
-    let found = outcome(alloc, schema, text, words)?;
-    if found.as_str() != expected {
-        let found = found.as_str();
-        write!(out, "{asked} => {found}\n")?;
+fn add_other(out: &mut String, row: &str, expected: &str, found: &str) -> Result<(), Fail> {
+    if found != expected {
+        write!(out, "{row} => {found}\n")?;
     }
     Ok(())
 }
 
-/// The rows that are wrong, as they are.
-fn wrong(alloc: Global, rows: &str) -> Result<String, Fail> {
-    let mut out = String::new(alloc);
-    let schema = schema(alloc)?;
-    for row in rows.lines() {
-        add_wrong(&mut out, alloc, &schema, row)?;
-    }
-    Ok(out)
+/// Adds a row as it is, where it is wrong.
+fn add_wrong(out: &mut String, alloc: Global, schema: &Schema, line: &str) -> Result<(), Fail> {
+    let (row, expected) = line.split_once(" => ").unwrap_or((line, ""));
+    let (text, words) = row.split_once(" ## ").unwrap_or((row, ""));
+    let found = outcome(alloc, schema, asked_by(text), words)?;
+    add_other(out, row, expected, found.as_str())
 }
 
+fn add_rows(out: &mut String, alloc: Global, schema: &Schema, rows: &str) -> Result<(), Fail> {
+    for row in rows.lines() {
+        add_wrong(out, alloc, schema, row)?;
+    }
+    Ok(())
+}
+
+/// Writes have their changes.
 const WRITES: &str =
     "INSERT INTO ks.t (k, c, v) VALUES (1, 2, 'x') => 1:00000001 marker 80000002[] cell 80000002.2[78]
  INSERT INTO t (v, c, k) VALUES ('x', 2, 1) => 1:00000001 marker 80000002[] cell 80000002.2[78]
@@ -375,12 +502,7 @@ DELETE FROM ks.two WHERE a = 1 AND b = 'a' AND c = 1 AND d > 1 => 3:000400000001
 USE ks => use ks
 USE script => use script";
 
-#[test]
-fn writes_have_their_changes(rt: HostRuntime) -> Result<(), Fail> {
-    assert_eq!(rt; wrong(rt.alloc(), WRITES)?.as_str(), "");
-    Ok(())
-}
-
+/// Values are of the types of their columns.
 const TYPES: &str =
     "INSERT INTO ks.types (k, a, b, c, d, e) VALUES (1, 'a', -1, 0x00ff, true, 5) => 4:00000001 marker [] cell .1[61] cell .2[ffffffffffffffff] cell .3[00ff] cell .4[01] cell .5[0000000000000005]
 INSERT INTO ks.types (k, f, h, i) VALUES (1, 00112233-4455-6677-8899-aabbccddeeff, -2, 127) => 4:00000001 marker [] cell .6[00112233445566778899aabbccddeeff] cell .8[fffe] cell .9[7f]
@@ -397,12 +519,7 @@ UPDATE ks.types SET i = -129 WHERE k = 1 => TypeMismatch
 UPDATE ks.types SET b = ? WHERE k = ? ## ##7 #1 => 4:00000001 cell .2[0000000000000007]
 UPDATE ks.types SET b = ? WHERE k = ? ## #7 #1 => TypeMismatch";
 
-#[test]
-fn values_are_of_their_types(rt: HostRuntime) -> Result<(), Fail> {
-    assert_eq!(rt; wrong(rt.alloc(), TYPES)?.as_str(), "");
-    Ok(())
-}
-
+/// Markers take their values.
 const MARKERS: &str =
     "INSERT INTO ks.t (k, c, v, w) VALUES (?, ?, ?, ?) USING TIMESTAMP ? ## #1 #2 'x unset ##9 => 1:00000001 marker 80000002[]@9 cell 80000002.2[78]@9
 INSERT INTO ks.t (k, c, v, w) VALUES (:k, :c, :v, :v2) ## #1 #2 null #3 => 1:00000001 marker 80000002[] cell 80000002.2[null] cell 80000002.3[00000003]
@@ -435,12 +552,7 @@ INSERT INTO ks.t (k, c) VALUES (1, 2) USING TIMESTAMP ? => ValueCount
 UPDATE ks.t SET v = 'x' WHERE k = 1 AND c = 2 IF v = :v => ValueCount
 BEGIN BATCH UPDATE ks.t SET v = 'x' WHERE k = 1 AND c = 1 APPLY BATCH ## #1 => ValueCount";
 
-#[test]
-fn markers_take_their_values(rt: HostRuntime) -> Result<(), Fail> {
-    assert_eq!(rt; wrong(rt.alloc(), MARKERS)?.as_str(), "");
-    Ok(())
-}
-
+/// Reads have their rows.
 const READS: &str = "SELECT * FROM ks.t WHERE k = 1 => 1:00000001 -..+ columns 0 1 2 3
 SELECT v, k, v FROM ks.t WHERE k = 1 => 1:00000001 -..+ columns 2 0 2
 SELECT COUNT(*) FROM ks.t WHERE k = 1 LIMIT 5 => 1:00000001 -..+ limit 5 count
@@ -470,12 +582,7 @@ SELECT * FROM ks.t WHERE k = 1 LIMIT -1 => TypeMismatch
 SELECT * FROM ks.t WHERE k = 1 LIMIT '1' => TypeMismatch
 SELECT * FROM ks.t WHERE k = 1 LIMIT null => TypeMismatch";
 
-#[test]
-fn reads_have_their_rows(rt: HostRuntime) -> Result<(), Fail> {
-    assert_eq!(rt; wrong(rt.alloc(), READS)?.as_str(), "");
-    Ok(())
-}
-
+/// Conditions have their operations.
 const CONDITIONS: &str =
     "INSERT INTO ks.t (k, c, v) VALUES (1, 2, 'x') IF NOT EXISTS => 1:00000001 of 80000002 if absent then marker 80000002[] cell 80000002.2[78] columns 0 1 2 3
 UPDATE ks.t SET v = 'x' WHERE k = 1 AND c = 2 IF EXISTS => 1:00000001 of 80000002 if present then cell 80000002.2[78] columns 0 1 2 3
@@ -489,12 +596,7 @@ UPDATE ks.t USING TIMESTAMP 5 SET v = 'x' WHERE k = 1 AND c = 2 IF EXISTS => Tim
 DELETE FROM ks.t WHERE k = 1 IF EXISTS => KeyMissing
 UPDATE ks.t SET v = 'x' WHERE k = 1 AND c = 2 IF c = 2 => NotSupported(Condition)";
 
-#[test]
-fn conditions_have_their_operations(rt: HostRuntime) -> Result<(), Fail> {
-    assert_eq!(rt; wrong(rt.alloc(), CONDITIONS)?.as_str(), "");
-    Ok(())
-}
-
+/// Batches are one mutation.
 const BATCHES: &str =
     "BEGIN BATCH INSERT INTO ks.t (k, c) VALUES (1, 2); UPDATE ks.t SET v = 'x' WHERE k = 1 AND c = 1; DELETE FROM ks.t WHERE k = 1 AND c > 5; APPLY BATCH => 1:00000001 range 80000005+..+[null] cell 80000001.2[78] marker 80000002[]
 BEGIN UNLOGGED BATCH UPDATE ks.t SET v = 'a' WHERE k = 1 AND c = 1 UPDATE ks.t SET v = 'b' WHERE k = 1 AND c = 1 APPLY BATCH => 1:00000001 cell 80000001.2[62]
@@ -511,12 +613,6 @@ BEGIN BATCH INSERT INTO ks.t (k, c) VALUES (1, null) INSERT INTO ks.t (k) VALUES
 BEGIN BATCH USING TIMESTAMP 'x' INSERT INTO ks.t (k, c) VALUES (1, 2) APPLY BATCH => TypeMismatch
 BEGIN BATCH USING TIMESTAMP null INSERT INTO ks.t (k) VALUES (1) APPLY BATCH => KeyMissing";
 
-#[test]
-fn batches_are_one_mutation(rt: HostRuntime) -> Result<(), Fail> {
-    assert_eq!(rt; wrong(rt.alloc(), BATCHES)?.as_str(), "");
-    Ok(())
-}
-
 /// Each statement of a batch has a list of values: one too many, one too few, a list too many and a list too few.
 const LISTS: &str =
     "BEGIN BATCH UPDATE ks.t SET v = ? WHERE k = ? AND c = 1; DELETE FROM ks.t WHERE k = 1 AND c = ?; APPLY BATCH ## 'x #1 | #2 => 1:00000001 cell 80000001.2[78] row 80000002[null]
@@ -528,12 +624,6 @@ BEGIN BATCH UPDATE ks.t SET v = ? WHERE k = ? AND c = 1; APPLY BATCH ## 'x #1 | 
 BEGIN BATCH UPDATE ks.t SET v = :v WHERE k = :k AND c = 1; DELETE FROM ks.t WHERE k = 1 AND c = ?; APPLY BATCH ## v='x k=#1 | c=#2 => 1:00000001 cell 80000001.2[78] row 80000002[null]
 BEGIN BATCH USING TIMESTAMP ? UPDATE ks.t SET v = 'x' WHERE k = 1 AND c = 1; DELETE FROM ks.t WHERE k = 1 AND c = 2; APPLY BATCH ## ##9 | => ValueCount
 UPDATE ks.t SET v = ? WHERE k = 1 AND c = 1 ## 'x | 'y => ValueCount";
-
-#[test]
-fn statements_of_a_batch_have_their_own_values(rt: HostRuntime) -> Result<(), Fail> {
-    assert_eq!(rt; wrong(rt.alloc(), LISTS)?.as_str(), "");
-    Ok(())
-}
 
 /// What is refused whatever the values are, with other values than those that are refused for themselves.
 const PREPARED: &str = "UPDATE ks.t SET v = ? WHERE k = 1 AND c = 'x' ## | => TypeMismatch
@@ -548,12 +638,6 @@ BEGIN BATCH APPLY BATCH ## | => NotSupported(Batch)
 BEGIN BATCH INSERT INTO ks.t (k, c) VALUES (?, ?) IF NOT EXISTS APPLY BATCH ## | => NotSupported(Condition)
 CREATE TABLE ks.x (k int PRIMARY KEY) ## | => NotSupported(Create)
 USE nope ## | => UnknownKeyspace";
-
-#[test]
-fn refusals_that_need_no_value_come_with_prepare(rt: HostRuntime) -> Result<(), Fail> {
-    assert_eq!(rt; wrong(rt.alloc(), PREPARED)?.as_str(), "");
-    Ok(())
-}
 
 /// The least statement for each refusal, and each with the next one in the order.
 const REFUSALS: &str = "SELECT * FROM ks.nope WHERE k = 1 => UnknownTable
@@ -608,9 +692,32 @@ USE nope ## #1 => ValueCount
 USE ks ## #1 => ValueCount
 CREATE TABLE ks.x (k int PRIMARY KEY) ## #1 => ValueCount";
 
+const PARTS: [&str; 9] = [
+    WRITES, TYPES, MARKERS, READS, CONDITIONS, BATCHES, LISTS, PREPARED, REFUSALS,
+];
+
+fn add_parts(out: &mut String, alloc: Global, schema: &Schema) -> Result<(), Fail> {
+    for rows in PARTS {
+        add_rows(out, alloc, schema, rows)?;
+    }
+    Ok(())
+}
+
+fn add_all_wrong(out: &mut String, alloc: Global) -> Result<(), Fail> {
+    let schema = schema_of(alloc, TABLES)?;
+    add_parts(out, alloc, &schema)
+}
+
+/// The rows that are wrong, as they are.
+fn wrong(alloc: Global) -> Result<String, Fail> {
+    let mut out = String::new(alloc);
+    add_all_wrong(&mut out, alloc)?;
+    Ok(out)
+}
+
 #[test]
-fn lowest_refusal_is_told(rt: HostRuntime) -> Result<(), Fail> {
-    assert_eq!(rt; wrong(rt.alloc(), REFUSALS)?.as_str(), "");
+fn statements_have_their_plans(rt: HostRuntime) -> Result<(), Fail> {
+    assert_eq!(rt; wrong(rt.alloc())?.as_str(), "");
     Ok(())
 }
 
@@ -621,11 +728,16 @@ fn zeros(alloc: Global, count: usize) -> Result<Param, AllocError> {
     Ok(Param::Given(Bytes::from_vec(vec![in alloc; 0u8; count]?)))
 }
 
+fn add_zeros(values: &mut ParamList, alloc: Global, count: usize) -> Result<(), AllocError> {
+    values.push(zeros(alloc, count)?)?;
+    Ok(())
+}
+
 /// Texts of these lengths.
-fn texts(alloc: Global, lengths: &[usize]) -> Result<Params, Fail> {
+fn texts(alloc: Global, lengths: &[usize]) -> Result<Params, AllocError> {
     let mut values = Items::new(alloc);
     for length in lengths {
-        values.push(zeros(alloc, *length)?)?;
+        add_zeros(&mut values, alloc, *length)?;
     }
     Ok(Params::ByPlace(values))
 }
@@ -638,166 +750,183 @@ enum Binding {
     Other,
 }
 
-fn binding_of(outcome: &Result<Plan, BindError>) -> Binding {
-    match outcome {
-        Ok(_) => Binding::Taken,
-        Err(BindError::Refused(fault)) => Binding::Refused(*fault),
-        Err(BindError::NoMemory) => Binding::Other,
+fn refused(error: BindError) -> Binding {
+    match error {
+        BindError::Refused(fault) => Binding::Refused(fault),
+        BindError::NoMemory => Binding::Other,
     }
 }
 
-fn bound(alloc: Global, schema: &Schema, text: &str, values: &Params) -> Binding {
-    match parse(alloc, text) {
-        Ok(statement) => {
-            let outcome = bind(alloc, schema, Some("ks"), &statement, values, None);
-            binding_of(&outcome)
-        }
-        Err(_) => Binding::Other,
+fn taken(_: Plan) -> Binding {
+    Binding::Taken
+}
+
+fn bound(alloc: Global, schema: &Schema, statement: &Statement, values: &Params) -> Binding {
+    match bind(alloc, schema, Some("ks"), statement, values, None) {
+        Ok(plan) => taken(plan),
+        Err(error) => refused(error),
     }
+}
+
+fn bound_alone(
+    alloc: Global,
+    schema: &Schema,
+    statements: &[Statement],
+    values: &Params,
+) -> Binding {
+    match statements {
+        [statement] => bound(alloc, schema, statement, values),
+        _ => Binding::Other,
+    }
+}
+
+fn bound_text(
+    alloc: Global,
+    schema: &Schema,
+    text: &str,
+    values: &Params,
+) -> Result<Binding, Fail> {
+    let statement = statement_of(alloc, text)?;
+    Ok(bound_alone(alloc, schema, statement.as_slice(), values))
+}
+
+fn sized_in(
+    alloc: Global,
+    schema: &Schema,
+    text: &str,
+    lengths: &[usize],
+) -> Result<Binding, Fail> {
+    let values = texts(alloc, lengths)?;
+    bound_text(alloc, schema, text, &values)
 }
 
 /// What becomes of a statement with texts of such lengths for its markers.
 fn sized(alloc: Global, text: &str, lengths: &[usize]) -> Result<Binding, Fail> {
-    let schema = schema(alloc)?;
-    let values = texts(alloc, lengths)?;
-    Ok(bound(alloc, &schema, text, &values))
+    let schema = schema_of(alloc, TABLES)?;
+    sized_in(alloc, &schema, text, lengths)
 }
 
 const ONE: &str = "UPDATE one SET v = ? WHERE k = ?";
 
+/// A zero byte has two order bytes, and the end two more.
 const TEXT: &str = "SELECT v FROM text WHERE k = 1 AND c > ?";
 
-#[test]
-fn long_values_and_keys_are_refused(rt: HostRuntime) -> Result<(), Fail> {
-    let alloc = rt.alloc();
-    assert_eq!(rt; sized(alloc, ONE, &[1_048_576, 1])?, Binding::Taken);
-    assert_eq!(rt;
-        sized(alloc, ONE, &[1_048_577, 1])?,
-        Binding::Refused(Fault::ValueTooLong)
-    );
-    assert_eq!(rt;
-        sized(alloc, ONE, &[1_048_577, 65_536])?,
-        Binding::Refused(Fault::ValueTooLong)
-    );
-    assert_eq!(rt; sized(alloc, ONE, &[1, 65_535])?, Binding::Taken);
-    assert_eq!(rt;
-        sized(alloc, ONE, &[1, 65_536])?,
-        Binding::Refused(Fault::KeyTooLong)
-    );
-    assert_eq!(rt;
-        sized(alloc, ONE, &[1_048_577, 0])?,
-        Binding::Refused(Fault::ValueTooLong)
-    );
-    assert_eq!(rt;
-        sized(alloc, ONE, &[1, 0])?,
-        Binding::Refused(Fault::EmptyKey)
-    );
-    Ok(())
-}
-
-/// A zero byte has two order bytes, and the end two more.
-#[test]
-fn long_rows_are_refused(rt: HostRuntime) -> Result<(), Fail> {
-    let alloc = rt.alloc();
-    assert_eq!(rt; sized(alloc, TEXT, &[32_766])?, Binding::Taken);
-    assert_eq!(rt;
-        sized(alloc, TEXT, &[32_767])?,
-        Binding::Refused(Fault::KeyTooLong)
-    );
-    Ok(())
-}
-
+/// Four cells with rows of four bytes have 4 * (1 + 8 + 1 + 5 + 25) bytes beside their values, and the partition and the
+/// count 18 + 4.
 const BATCH: &str =
     "BEGIN BATCH UPDATE t SET v = ? WHERE k = 1 AND c = 1 UPDATE t SET v = ? WHERE k = 1 AND c = 2
     UPDATE t SET v = ? WHERE k = 1 AND c = 3 UPDATE t SET v = ? WHERE k = 1 AND c = 4 APPLY BATCH";
 
-/// Four cells with rows of four bytes have 4 * (1 + 8 + 1 + 5 + 25) bytes beside their values, and the partition and the
-/// count 18 + 4.
-#[test]
-fn long_mutations_are_refused(rt: HostRuntime) -> Result<(), Fail> {
-    let alloc = rt.alloc();
-    let most = 1_048_576 - 4 * 40 - 22;
-    assert_eq!(rt;
-        sized(alloc, BATCH, &[1_048_576, 1_048_576, 1_048_576, most])?,
-        Binding::Taken
-    );
-    assert_eq!(rt;
-        sized(alloc, BATCH, &[1_048_576, 1_048_576, 1_048_576, most + 1])?,
-        Binding::Refused(Fault::MutationTooLong)
-    );
-    Ok(())
-}
+const MIB: usize = 1_048_576;
+
+/// What is left for the last of four values.
+const MOST: usize = MIB - 4 * 40 - 22;
 
 const WIDE: &str = "UPDATE wide SET a = ?, b = ?, c = ?, d = ?, e = ? WHERE k = ?";
 
+const FILTERED: &str = "UPDATE wide SET a = ? WHERE k = ? AND b = 'x'";
+
+const PAIR: &str = "UPDATE pair SET v = 'x' WHERE k = ? AND c = ?";
+
+const FILTERING: Fault = Fault::NotSupported(Feature::Filtering);
+
+type SizedRows = &'static [(&'static str, &'static [usize], Binding)];
+
+/// Values and keys.
+const LONG_PARTS: SizedRows = &[
+    (ONE, &[1_048_576, 1], Binding::Taken),
+    (ONE, &[1_048_577, 1], Binding::Refused(Fault::ValueTooLong)),
+    (
+        ONE,
+        &[1_048_577, 65_536],
+        Binding::Refused(Fault::ValueTooLong),
+    ),
+    (ONE, &[1, 65_535], Binding::Taken),
+    (ONE, &[1, 65_536], Binding::Refused(Fault::KeyTooLong)),
+    (ONE, &[1_048_577, 0], Binding::Refused(Fault::ValueTooLong)),
+    (ONE, &[1, 0], Binding::Refused(Fault::EmptyKey)),
+];
+
+/// Rows and mutations.
+const LONG_WHOLES: SizedRows = &[
+    (TEXT, &[32_766], Binding::Taken),
+    (TEXT, &[32_767], Binding::Refused(Fault::KeyTooLong)),
+    (BATCH, &[MIB, MIB, MIB, MOST], Binding::Taken),
+    (
+        BATCH,
+        &[MIB, MIB, MIB, MOST + 1],
+        Binding::Refused(Fault::MutationTooLong),
+    ),
+];
+
+/// Refusals, each with the next one in the order.
+const LONG_IN_ORDER: SizedRows = &[
+    (FILTERED, &[1_048_577, 1], Binding::Refused(FILTERING)),
+    (PAIR, &[0, 32_767], Binding::Refused(Fault::KeyTooLong)),
+    (PAIR, &[0, 32_766], Binding::Refused(Fault::EmptyKey)),
+    (
+        WIDE,
+        &[MIB, MIB, MIB, MIB, MIB, 0],
+        Binding::Refused(Fault::EmptyKey),
+    ),
+    (
+        WIDE,
+        &[MIB, MIB, MIB, MIB, MIB, 1],
+        Binding::Refused(Fault::MutationTooLong),
+    ),
+    (WIDE, &[MIB, MIB, MIB, 1, 1, 1], Binding::Taken),
+];
+
 #[test]
-fn refusals_of_sizes_are_in_order(rt: HostRuntime) -> Result<(), Fail> {
-    let alloc = rt.alloc();
-    let filtered = "UPDATE wide SET a = ? WHERE k = ? AND b = 'x'";
-    assert_eq!(rt;
-        sized(alloc, filtered, &[1_048_577, 1])?,
-        Binding::Refused(Fault::NotSupported(Feature::Filtering))
-    );
-    let pair = "UPDATE pair SET v = 'x' WHERE k = ? AND c = ?";
-    assert_eq!(rt;
-        sized(alloc, pair, &[0, 32_767])?,
-        Binding::Refused(Fault::KeyTooLong)
-    );
-    assert_eq!(rt;
-        sized(alloc, pair, &[0, 32_766])?,
-        Binding::Refused(Fault::EmptyKey)
-    );
-    let mib = 1_048_576;
-    assert_eq!(rt;
-        sized(alloc, WIDE, &[mib, mib, mib, mib, mib, 0])?,
-        Binding::Refused(Fault::EmptyKey)
-    );
-    assert_eq!(rt;
-        sized(alloc, WIDE, &[mib, mib, mib, mib, mib, 1])?,
-        Binding::Refused(Fault::MutationTooLong)
-    );
-    assert_eq!(rt;
-        sized(alloc, WIDE, &[mib, mib, mib, 1, 1, 1])?,
-        Binding::Taken
-    );
+fn long_values_keys_rows_and_mutations_are_refused(rt: HostRuntime) -> Result<(), Fail> {
+    for rows in [LONG_PARTS, LONG_WHOLES, LONG_IN_ORDER] {
+        for (text, lengths, want) in rows {
+            let found = sized(rt.alloc(), text, lengths)?;
+            assert!(rt; found == *want, "{text} {lengths:?} {found:?}");
+        }
+    }
     Ok(())
+}
+
+// ---- timestamps
+
+fn print_written_at(out: &mut String, alloc: Global, asked: Asked) -> Result<(), Fail> {
+    let schema = schema_of(alloc, TABLES)?;
+    print_with_params(out, alloc, &schema, asked, "")
 }
 
 /// The plan of a statement, where the protocol gives a timestamp.
 fn written_at(alloc: Global, text: &str, timestamp: Option<i64>) -> Result<String, Fail> {
-    let schema = schema(alloc)?;
-    let values = Params::ByPlace(Items::new(alloc));
     let mut out = String::new(alloc);
-    print_bound(
-        &mut out,
-        alloc,
-        &schema,
-        Some("ks"),
+    let asked = Asked {
+        used: Some("ks"),
         text,
-        &values,
         timestamp,
-    )?;
+    };
+    print_written_at(&mut out, alloc, asked)?;
     Ok(out)
+}
+
+const WRITTEN: [(&str, &str); 3] = [
+    ("DELETE FROM one WHERE k = 'a'", "2:61 row [null]@5"),
+    (
+        "DELETE FROM one USING TIMESTAMP 7 WHERE k = 'a'",
+        "2:61 row [null]@7",
+    ),
+    (
+        "DELETE FROM one WHERE k = 'a' IF EXISTS",
+        "2:61 of  if present then row [null] columns 0 1",
+    ),
+];
+
+fn is_written_as(alloc: Global, text: &str, plan: &str) -> Result<bool, Fail> {
+    Ok(written_at(alloc, text, Some(5))?.as_str() == plan)
 }
 
 #[test]
 fn own_timestamp_counts_first(rt: HostRuntime) -> Result<(), Fail> {
-    let alloc = rt.alloc();
-    let plain = "DELETE FROM one WHERE k = 'a'";
-    assert_eq!(rt;
-        written_at(alloc, plain, Some(5))?.as_str(),
-        "2:61 row [null]@5"
-    );
-    let own = "DELETE FROM one USING TIMESTAMP 7 WHERE k = 'a'";
-    assert_eq!(rt;
-        written_at(alloc, own, Some(5))?.as_str(),
-        "2:61 row [null]@7"
-    );
-    let conditional = "DELETE FROM one WHERE k = 'a' IF EXISTS";
-    let operation = "2:61 of  if present then row [null] columns 0 1";
-    assert_eq!(rt;
-        written_at(alloc, conditional, Some(5))?.as_str(),
-        operation
-    );
+    for (text, plan) in WRITTEN {
+        assert!(rt; is_written_as(rt.alloc(), text, plan)?, "{text}");
+    }
     Ok(())
 }

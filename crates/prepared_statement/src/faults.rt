@@ -1,6 +1,7 @@
 //! What is wrong with the value of a slot.
 
-ghost use Rattle.std.specs.Prelude.{◌≡◌, option_copied};
+ghost use Rattle.std.specs.Prelude.{◌≡◌, ◌==◌, option_copied};
+ghost use Rattle.cql_values.specs.Value.{uuid_version};
 ghost use Rattle.cql_values.specs.declared.value.CqlType.TheVariants as types;
 ghost use Rattle.statement_plan.specs.Faults.{lower as lower_of};
 ghost use Rattle.prepared_statement.specs.Faults.{value_at as value_at_of, fits as fits_of, int_in as int_in_of, bigint_in as bigint_in_of, is_lone as is_lone_of, is_key_role as is_key_role_of, refuses_null as refuses_null_of, refuses_unset as refuses_unset_of, is_count as is_count_of, suits as suits_of, is_wrong as is_wrong_of, is_mismatched as is_mismatched_of, mismatches as mismatches_of, is_marker as is_marker_of, misses as misses_of, is_absent as is_absent_of, is_null_key as is_null_key_of, is_long_param as is_long_param_of, is_long as is_long_of, slot_fault as slot_fault_of, own_slot_fault as own_slot_fault_of, own_fault as own_fault_of};
@@ -43,11 +44,18 @@ fn is_text(bytes: &[u8]) -> bool
     }
 }
 
+/// Whether a uuid is of version 1, by time and node.
+fn is_by_time(uuid: u128) -> bool
+    ensures { result ≡ (uuid_version uuid == 1) }
+{
+    (uuid >> 76) & 0xf == 1
+}
+
 fn is_timeuuid(bytes: &[u8]) -> bool
     ensures { result ≡ fits_of types.Timeuuid bytes.now }
 {
     match bytes.as_array::<16>() {
-        Some(uuid) => (u128::from_be_bytes(*uuid) >> 76) & 0xf == 1,
+        Some(uuid) => is_by_time(u128::from_be_bytes(*uuid)),
         None => false,
     }
 }

@@ -1,6 +1,6 @@
 //! Statements with all done that needs no value.
 
-ghost use Rattle.std.specs.Prelude.{◌≡◌, IfOk, None, fold, map, option_copied};
+ghost use Rattle.std.specs.Prelude.{◌≡◌, [], ◌∷◌, ◌++◌, IfOk, OnOk, None, fold, map, option_copied};
 ghost use Rattle.prepared_statement.specs.Changing.{modification_in};
 ghost use Rattle.prepared_statement.specs.Prepared.{change_with, change_in, change_of, read_with, read_in, batch_of, use_in, outline_of, change_refusal as change_refusal_of, condition_fault as condition_fault_of, lower_change, empty_fault as empty_fault_of, batch_refusal as batch_refusal_of};
 ghost use Rattle.prepared_statement.specs.Slots.{slots_of as slots_of_modification, select_slots};
@@ -164,6 +164,19 @@ fn read_of_table(alloc: Global, table: Option<&Table>, select: &Select) -> Resul
     }
 }
 
+fn add_change(
+    changes: &mut Changes,
+    alloc: Global,
+    schema: &Schema,
+    keyspace: Option<&str>,
+    statement: &Modification,
+) -> Result<(), AllocError>
+    ensures { OnOk result (changes.new ≡ changes.old ++ change_of schema.now (option_copied keyspace.entry) statement.now ∷ []) }
+{
+    changes.push(change(alloc, schema, keyspace, Changing::of(statement))?)?;
+    Ok(())
+}
+
 fn changes(
     alloc: Global,
     schema: &Schema,
@@ -174,7 +187,7 @@ fn changes(
 {
     let mut changes = Items::new(alloc);
     for statement in statements {
-        changes.push(change(alloc, schema, keyspace, Changing::of(statement))?)?;
+        add_change(&mut changes, alloc, schema, keyspace, statement)?;
     }
     Ok(changes)
 }
@@ -214,25 +227,22 @@ pub fn outline(
 {
     match statement {
         Statement::CreateKeyspace(_) | Statement::CreateTable(_) => Ok(Prepared::Create),
-        Statement::Use(statement) => Ok(Prepared::Use(use_of(alloc, schema, statement)?)),
+        Statement::Use(statement) => use_of(alloc, schema, statement).map(Prepared::Use),
         Statement::Insert(insert) => {
-            let change = change(alloc, schema, keyspace, Changing::Insert(insert))?;
-            Ok(Prepared::Change(change))
+            change(alloc, schema, keyspace, Changing::Insert(insert)).map(Prepared::Change)
         }
         Statement::Update(update) => {
-            let change = change(alloc, schema, keyspace, Changing::Update(update))?;
-            Ok(Prepared::Change(change))
+            change(alloc, schema, keyspace, Changing::Update(update)).map(Prepared::Change)
         }
         Statement::Delete(delete) => {
-            let change = change(alloc, schema, keyspace, Changing::Delete(delete))?;
-            Ok(Prepared::Change(change))
+            change(alloc, schema, keyspace, Changing::Delete(delete)).map(Prepared::Change)
         }
         Statement::Select(select) => {
             let table = table_named(schema, keyspace, &select.table);
-            Ok(Prepared::Read(read_of_table(alloc, table, select)?))
+            read_of_table(alloc, table, select).map(Prepared::Read)
         }
         Statement::Batch(statement) => {
-            Ok(Prepared::Batch(batch(alloc, schema, keyspace, statement)?))
+            batch(alloc, schema, keyspace, statement).map(Prepared::Batch)
         }
     }
 }

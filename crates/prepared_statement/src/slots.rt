@@ -275,36 +275,60 @@ fn push_limit(slots: &mut Slots, alloc: Global, limit: &Option<Term>) -> Result<
     Ok(())
 }
 
-fn insert(alloc: Global, columns: &ColumnDefs, insert: &Insert) -> Result<Slots, AllocError>
-    ensures { IfOk result (λ slots. slots ≡ insert_slots columns.now insert.now) }
+fn push_insert(
+    slots: &mut Slots,
+    alloc: Global,
+    columns: &ColumnDefs,
+    insert: &Insert,
+) -> Result<(), AllocError>
+    ensures { OnOk result (slots.new ≡ slots.old ++ insert_slots columns.now insert.now) }
 {
-    let mut slots = Items::new(alloc);
     let names = insert.columns.as_slice();
-    push_entries(&mut slots, alloc, columns, names, insert.values.as_slice())?;
-    push_stamp(&mut slots, alloc, &insert.stamp)?;
-    Ok(slots)
+    push_entries(slots, alloc, columns, names, insert.values.as_slice())?;
+    push_stamp(slots, alloc, &insert.stamp)
 }
 
-fn update(alloc: Global, columns: &ColumnDefs, update: &Update) -> Result<Slots, AllocError>
-    ensures { IfOk result (λ slots. slots ≡ update_slots columns.now update.now) }
+fn push_update(
+    slots: &mut Slots,
+    alloc: Global,
+    columns: &ColumnDefs,
+    update: &Update,
+) -> Result<(), AllocError>
+    ensures { OnOk result (slots.new ≡ slots.old ++ update_slots columns.now update.now) }
 {
-    let mut slots = Items::new(alloc);
-    push_stamp(&mut slots, alloc, &update.stamp)?;
-    push_assignments(&mut slots, alloc, columns, update.assignments.as_slice())?;
-    push_relations(&mut slots, alloc, columns, update.relations.as_slice())?;
-    push_condition(&mut slots, alloc, columns, &update.condition)?;
-    Ok(slots)
+    push_stamp(slots, alloc, &update.stamp)?;
+    push_assignments(slots, alloc, columns, update.assignments.as_slice())?;
+    push_relations(slots, alloc, columns, update.relations.as_slice())?;
+    push_condition(slots, alloc, columns, &update.condition)
 }
 
-fn delete(alloc: Global, columns: &ColumnDefs, delete: &Delete) -> Result<Slots, AllocError>
-    ensures { IfOk result (λ slots. slots ≡ delete_slots columns.now delete.now) }
+fn push_delete(
+    slots: &mut Slots,
+    alloc: Global,
+    columns: &ColumnDefs,
+    delete: &Delete,
+) -> Result<(), AllocError>
+    ensures { OnOk result (slots.new ≡ slots.old ++ delete_slots columns.now delete.now) }
 {
-    let mut slots = Items::new(alloc);
-    push_deleted(&mut slots, alloc, columns, delete.columns.as_slice())?;
-    push_stamp(&mut slots, alloc, &delete.stamp)?;
-    push_relations(&mut slots, alloc, columns, delete.relations.as_slice())?;
-    push_condition(&mut slots, alloc, columns, &delete.condition)?;
-    Ok(slots)
+    push_deleted(slots, alloc, columns, delete.columns.as_slice())?;
+    push_stamp(slots, alloc, &delete.stamp)?;
+    push_relations(slots, alloc, columns, delete.relations.as_slice())?;
+    push_condition(slots, alloc, columns, &delete.condition)
+}
+
+fn push_changing(
+    slots: &mut Slots,
+    alloc: Global,
+    columns: &ColumnDefs,
+    changing: Changing,
+) -> Result<(), AllocError>
+    ensures { OnOk result (slots.new ≡ slots.old ++ slots_of_modification columns.now (modification_in changing.entry)) }
+{
+    match changing {
+        Changing::Insert(statement) => push_insert(slots, alloc, columns, statement),
+        Changing::Update(statement) => push_update(slots, alloc, columns, statement),
+        Changing::Delete(statement) => push_delete(slots, alloc, columns, statement),
+    }
 }
 
 /// The slots of a statement that changes rows.
@@ -315,11 +339,8 @@ pub(crate) fn slots_of(
 ) -> Result<Slots, AllocError>
     ensures { IfOk result (λ slots. slots ≡ slots_of_modification columns.now (modification_in changing.entry)) }
 {
-    match changing {
-        Changing::Insert(statement) => insert(alloc, columns, statement),
-        Changing::Update(statement) => update(alloc, columns, statement),
-        Changing::Delete(statement) => delete(alloc, columns, statement),
-    }
+    let mut slots = Items::new(alloc);
+    push_changing(&mut slots, alloc, columns, changing).and(Ok(slots))
 }
 
 /// The slots of a SELECT.
@@ -332,6 +353,5 @@ pub(crate) fn slots_of_select(
 {
     let mut slots = Items::new(alloc);
     push_relations(&mut slots, alloc, columns, select.relations.as_slice())?;
-    push_limit(&mut slots, alloc, &select.limit)?;
-    Ok(slots)
+    push_limit(&mut slots, alloc, &select.limit).and(Ok(slots))
 }

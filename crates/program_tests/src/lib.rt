@@ -2,6 +2,8 @@
 #![tactic(auto)]
 
 #[cfg(test)]
+mod mending;
+#[cfg(test)]
 mod printed_scripts;
 #[cfg(test)]
 mod running;

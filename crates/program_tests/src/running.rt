@@ -7,9 +7,15 @@ use std::test::Fail;
 
 /// What a run ended with, and what it wrote.
 #[derive(Drop)]
-pub(crate) struct Ended {
-    pub status: Status,
-    pub text: Vec<u8>,
+struct Ended {
+    status: Status,
+    text: Vec<u8>,
+}
+
+impl Ended {
+    fn is(&self, status: Status, text: &str) -> bool {
+        self.status == status && self.text.as_slice() == text.as_bytes()
+    }
 }
 
 /// Source and sink take `most` bytes in a call, and these calls of theirs fail.
@@ -26,37 +32,58 @@ const SOUND: Outside<'static> = Outside {
     failing_writes: &[],
 };
 
+fn words_of(alloc: Global, command: &str) -> Result<Vec<String>, AllocError> {
+    let mut words = Vec::new(alloc);
+    for word in command.split(' ') {
+        words.push(String::from_str(alloc, word)?)?;
+    }
+    Ok(words)
+}
+
+fn source_of(alloc: Global, script: &str, outside: &Outside<'_>) -> Result<MemSource, AllocError> {
+    let bytes = Vec::from_slice(alloc, script.as_bytes())?;
+    let failing = Vec::from_slice(alloc, outside.failing_reads)?;
+    Ok(MemSource::new(bytes, outside.most, failing))
+}
+
 fn run(
     alloc: Global,
     command: &str,
     script: &str,
     outside: &Outside<'_>,
 ) -> Result<Ended, AllocError> {
-    let mut words = Vec::new(alloc);
-    for word in command.split(' ') {
-        words.push(String::from_str(alloc, word)?)?;
-    }
-    let mut source = MemSource::new(
-        Vec::from_slice(alloc, script.as_bytes())?,
-        outside.most,
-        Vec::from_slice(alloc, outside.failing_reads)?,
-    );
-    let mut sink = MemSink::new(
-        alloc,
-        outside.most,
-        Vec::from_slice(alloc, outside.failing_writes)?,
-    );
+    let words = words_of(alloc, command)?;
+    let mut source = source_of(alloc, script, outside)?;
+    let failing = Vec::from_slice(alloc, outside.failing_writes)?;
+    let mut sink = MemSink::new(alloc, outside.most, failing);
     let status = run_cluster(alloc, &words, &mut source, &mut sink);
-    let text = Vec::from_slice(alloc, sink.bytes())?;
-    Ok(Ended { status, text })
+    Ok(Ended {
+        status,
+        text: Vec::from_slice(alloc, sink.bytes())?,
+    })
 }
 
 const HEAD: &str = "cassandra-script 1\nring 0\nrf 1\nrun\n";
 
-fn behind_head(alloc: Global, lines: &str) -> Result<String, AllocError> {
-    let mut script = String::from_str(alloc, HEAD)?;
+fn behind(alloc: Global, head: &str, lines: &str) -> Result<String, AllocError> {
+    let mut script = String::from_str(alloc, head)?;
     script.push_str(lines)?;
     Ok(script)
+}
+
+/// Whether the script is run so, and prints this.
+fn ends_with(alloc: Global, script: &str, status: Status, want: &str) -> Result<bool, AllocError> {
+    Ok(run(alloc, "script", script, &SOUND)?.is(status, want))
+}
+
+/// Whether these lines print this behind the head of one node.
+fn one_node_answers(alloc: Global, lines: &str, want: &str) -> Result<bool, AllocError> {
+    ends_with(
+        alloc,
+        behind(alloc, HEAD, lines)?.as_str(),
+        Status::Ok,
+        want,
+    )
 }
 
 #[test]
@@ -82,11 +109,8 @@ fn answers_scripts(rt: HostRuntime) -> Result<(), Fail> {
         ("deliver 0 0 1\ndrop 0 0 0\nsettle 100000\n", ""),
         ("", ""),
     ];
-    for (lines, want) in cases {
-        let script = behind_head(rt.alloc(), lines)?;
-        let ended = run(rt.alloc(), "script", script.as_str(), &SOUND)?;
-        assert_eq!(rt; ended.status, Status::Ok, "{lines}");
-        assert_eq!(rt; ended.text.as_slice(), want.as_bytes(), "{lines}");
+    for (lines, want) in &cases {
+        assert!(rt; one_node_answers(rt.alloc(), lines, want)?, "{lines}");
     }
     Ok(())
 }
@@ -114,19 +138,24 @@ fn answers_scripts_of_three_nodes(rt: HostRuntime) -> Result<(), Fail> {
             "1 ok\n2 ok\n3 rows 1\n 'a' | 'x'\n",
         ),
     ];
-    for (lines, want) in cases {
-        let ended = of_three_nodes(rt.alloc(), lines)?;
-        assert_eq!(rt; ended.status, Status::Ok, "{lines}");
-        assert_eq!(rt; ended.text.as_slice(), want.as_bytes(), "{lines}");
+    for (lines, want) in &cases {
+        assert!(rt; three_nodes_answer(rt.alloc(), lines, want)?, "{lines}");
     }
     Ok(())
 }
 
-/// What these lines print behind the head of three nodes.
-pub(crate) fn of_three_nodes(alloc: Global, lines: &str) -> Result<Ended, AllocError> {
-    let mut script = String::from_str(alloc, HEAD_OF_THREE)?;
-    script.push_str(lines)?;
-    run(alloc, "script", script.as_str(), &SOUND)
+/// Whether these lines print this behind the head of three nodes.
+pub(crate) fn three_nodes_answer(
+    alloc: Global,
+    lines: &str,
+    want: &str,
+) -> Result<bool, AllocError> {
+    ends_with(
+        alloc,
+        behind(alloc, HEAD_OF_THREE, lines)?.as_str(),
+        Status::Ok,
+        want,
+    )
 }
 
 // A stop before the gate of a log entry is written leaves nothing of it, whatever of the entry is in the file; behind it
@@ -155,10 +184,8 @@ fn loads_what_was_kept(rt: HostRuntime) -> Result<(), Fail> {
             "stopped 2\n1 rows 0\n",
         ),
     ];
-    for (lines, want) in cases {
-        let ended = of_three_nodes(rt.alloc(), lines)?;
-        assert_eq!(rt; ended.status, Status::Ok, "{lines}");
-        assert_eq!(rt; ended.text.as_slice(), want.as_bytes(), "{lines}");
+    for (lines, want) in &cases {
+        assert!(rt; three_nodes_answer(rt.alloc(), lines, want)?, "{lines}");
     }
     Ok(())
 }
@@ -184,10 +211,8 @@ fn takes_messages_in_their_time(rt: HostRuntime) -> Result<(), Fail> {
             "1 ok\n2 rows 0\n",
         ),
     ];
-    for (lines, want) in cases {
-        let ended = of_three_nodes(rt.alloc(), lines)?;
-        assert_eq!(rt; ended.status, Status::Ok, "{lines}");
-        assert_eq!(rt; ended.text.as_slice(), want.as_bytes(), "{lines}");
+    for (lines, want) in &cases {
+        assert!(rt; three_nodes_answer(rt.alloc(), lines, want)?, "{lines}");
     }
     Ok(())
 }
@@ -205,11 +230,8 @@ fn answers_through_stops(rt: HostRuntime) -> Result<(), Fail> {
             "1 ok\n2 rows 1\n 'a' | 'x'\n",
         ),
     ];
-    for (lines, want) in cases {
-        let script = behind_head(rt.alloc(), lines)?;
-        let ended = run(rt.alloc(), "script", script.as_str(), &SOUND)?;
-        assert_eq!(rt; ended.status, Status::Ok, "{lines}");
-        assert_eq!(rt; ended.text.as_slice(), want.as_bytes(), "{lines}");
+    for (lines, want) in &cases {
+        assert!(rt; one_node_answers(rt.alloc(), lines, want)?, "{lines}");
     }
     Ok(())
 }
@@ -217,11 +239,14 @@ fn answers_through_stops(rt: HostRuntime) -> Result<(), Fail> {
 const HEAD_OF_KS: &str =
     "cassandra-script 1\nring 0\nrf 1\nschema CREATE KEYSPACE ks WITH replication = {'class': 'SimpleStrategy', 'replication_factor': 1}\nschema CREATE TABLE ks.t (k int, c int, v text, PRIMARY KEY (k, c))\nrun\n";
 
-/// What these lines answer behind the head with the table `ks.t`.
-fn answered(alloc: Global, lines: &str) -> Result<Ended, AllocError> {
-    let mut script = String::from_str(alloc, HEAD_OF_KS)?;
-    script.push_str(lines)?;
-    run(alloc, "script", script.as_str(), &SOUND)
+/// Whether these lines print this behind the head with the table `ks.t`.
+fn table_answers(alloc: Global, lines: &str, want: &str) -> Result<bool, AllocError> {
+    ends_with(
+        alloc,
+        behind(alloc, HEAD_OF_KS, lines)?.as_str(),
+        Status::Ok,
+        want,
+    )
 }
 
 // A deletion beats a value of its time; INSERT writes a row, and UPDATE only cells (CQL reference, "UPDATE").
@@ -249,10 +274,8 @@ fn answers_statements(rt: HostRuntime) -> Result<(), Fail> {
             "1 ok\n2 ok\n3 rows 1\n 'b' | 1\n4 rows 1\n 2\n",
         ),
     ];
-    for (lines, want) in cases {
-        let ended = answered(rt.alloc(), lines)?;
-        assert_eq!(rt; ended.status, Status::Ok, "{lines}");
-        assert_eq!(rt; ended.text.as_slice(), want.as_bytes(), "{lines}");
+    for (lines, want) in &cases {
+        assert!(rt; table_answers(rt.alloc(), lines, want)?, "{lines}");
     }
     Ok(())
 }
@@ -274,10 +297,8 @@ fn answers_in_their_order(rt: HostRuntime) -> Result<(), Fail> {
             "1 invalid NotSupported\n2 invalid NotSupported\n3 rows 0\n4 ok\n5 rows 1\n 'it''s' | 'o''clock'\n",
         ),
     ];
-    for (lines, want) in cases {
-        let ended = answered(rt.alloc(), lines)?;
-        assert_eq!(rt; ended.status, Status::Ok, "{lines}");
-        assert_eq!(rt; ended.text.as_slice(), want.as_bytes(), "{lines}");
+    for (lines, want) in &cases {
+        assert!(rt; table_answers(rt.alloc(), lines, want)?, "{lines}");
     }
     Ok(())
 }
@@ -325,10 +346,11 @@ fn refuses_what_is_no_script(rt: HostRuntime) -> Result<(), Fail> {
             "5: head expected\n",
         ),
     ];
-    for (script, want) in cases {
-        let ended = run(rt.alloc(), "script", script, &SOUND)?;
-        assert_eq!(rt; ended.status, Status::BadScript, "{script}");
-        assert_eq!(rt; ended.text.as_slice(), want.as_bytes(), "{script}");
+    for (script, want) in &cases {
+        assert!(rt;
+            ends_with(rt.alloc(), script, Status::BadScript, want)?,
+            "{script}"
+        );
     }
     Ok(())
 }
@@ -343,22 +365,21 @@ fn tells_of_itself(rt: HostRuntime) -> Result<(), Fail> {
         (
             "--version",
             Status::Ok,
-            "biropuve 0.1.0, proved with rattle-kit-13f\n",
+            "biropuve 0.1.0, proved with rattle-kit-13b\n",
         ),
         ("--help --version", Status::Usage, "usage: script\n"),
         ("", Status::Usage, "usage: script\n"),
     ];
-    for (words, status, text) in cases {
+    for (words, status, text) in &cases {
         let ended = run(rt.alloc(), words, "no script", &SOUND)?;
-        assert_eq!(rt; ended.status, status, "{words}");
-        assert_eq!(rt; ended.text.as_slice(), text.as_bytes(), "{words}");
+        assert!(rt; ended.is(*status, text), "{words}");
     }
     Ok(())
 }
 
 #[test]
 fn tells_faults_apart(rt: HostRuntime) -> Result<(), Fail> {
-    let script = behind_head(rt.alloc(), "put 0 ONE k a 5 x\n")?;
+    let script = behind(rt.alloc(), HEAD, "put 0 ONE k a 5 x\n")?;
     let cases = [
         ("scripts", SOUND, Status::Usage, "usage: script\n"),
         ("script now", SOUND, Status::Usage, "usage: script\n"),
@@ -403,10 +424,9 @@ fn tells_faults_apart(rt: HostRuntime) -> Result<(), Fail> {
             "1 ok\n",
         ),
     ];
-    for (word, outside, status, text) in cases {
-        let ended = run(rt.alloc(), word, script.as_str(), &outside)?;
-        assert_eq!(rt; ended.status, status);
-        assert_eq!(rt; ended.text.as_slice(), text.as_bytes());
+    for (word, outside, status, text) in &cases {
+        let ended = run(rt.alloc(), word, script.as_str(), outside)?;
+        assert!(rt; ended.is(*status, text), "{word} {text}");
     }
     Ok(())
 }

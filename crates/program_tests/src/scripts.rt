@@ -318,11 +318,12 @@ fn write_event(shown: &mut String, event: &ScriptEvent) -> Result<(), Fail> {
     }
 }
 
-fn write_events(shown: &mut String, events: &ScriptEvents) -> Result<(), Fail> {
+fn shown_events(alloc: Global, events: &ScriptEvents) -> Result<String, Fail> {
+    let mut shown = String::new(alloc);
     for event in events.as_slice() {
-        write_event(shown, event)?;
+        write_event(&mut shown, event)?;
     }
-    Ok(())
+    Ok(shown)
 }
 
 fn write_settings(shown: &mut String, script: &Script) -> Result<(), Fail> {
@@ -352,34 +353,33 @@ fn write_script(shown: &mut String, script: &Script) -> Result<(), Fail> {
     write_counts(shown, script)
 }
 
-fn write_error(shown: &mut String, error: &ParseError) -> Result<(), Fail> {
+fn shown_error(alloc: Global, error: &ParseError) -> Result<String, Fail> {
     match error {
-        ParseError::Script(error) => write!(shown, "{error:?}")?,
-        ParseError::NoMemory => write!(shown, "no memory")?,
+        ParseError::Script(error) => Ok(format!(in alloc; "{error:?}")?),
+        ParseError::NoMemory => Ok(String::from_str(alloc, "no memory")?),
     }
-    Ok(())
 }
 
 /// The event of a line behind the head, or the refusal.
 fn shown_event(alloc: Global, line: &str) -> Result<String, Fail> {
     let mut text = String::from_str(alloc, "cassandra-script 1\nring -3 0 3\nrf 3\nrun\n")?;
     text.push_str(line)?;
-    let mut shown = String::new(alloc);
     match parse(alloc, text.as_bytes()) {
-        Ok(script) => write_events(&mut shown, &script.events)?,
-        Err(error) => write_error(&mut shown, &error)?,
+        Ok(script) => shown_events(alloc, &script.events),
+        Err(error) => shown_error(alloc, &error),
     }
-    Ok(shown)
 }
 
 fn shown_script(alloc: Global, text: &str) -> Result<String, Fail> {
     let text = written_out(alloc, text)?;
-    let mut shown = String::new(alloc);
     match parse(alloc, text.as_bytes()) {
-        Ok(script) => write_script(&mut shown, &script)?,
-        Err(error) => write_error(&mut shown, &error)?,
+        Ok(script) => {
+            let mut shown = String::new(alloc);
+            write_script(&mut shown, &script)?;
+            Ok(shown)
+        }
+        Err(error) => shown_error(alloc, &error),
     }
-    Ok(shown)
 }
 
 #[test]
@@ -387,8 +387,7 @@ fn reads_events(rt: HostRuntime) -> Result<(), Fail> {
     let alloc = rt.alloc();
     for row in EVENTS.lines() {
         let (line, want) = row.split_once('|').unwrap_or((row, ""));
-        let shown = shown_event(alloc, line)?;
-        assert_eq!(rt; shown.as_str(), want, "{row}");
+        assert!(rt; shown_event(alloc, line)?.as_str() == want, "{row}");
     }
     Ok(())
 }
@@ -398,8 +397,7 @@ fn reads_scripts(rt: HostRuntime) -> Result<(), Fail> {
     let alloc = rt.alloc();
     for row in SCRIPTS.lines() {
         let (text, want) = row.split_once('|').unwrap_or((row, ""));
-        let shown = shown_script(alloc, text)?;
-        assert_eq!(rt; shown.as_str(), want, "{row}");
+        assert!(rt; shown_script(alloc, text)?.as_str() == want, "{row}");
     }
     Ok(())
 }
@@ -431,24 +429,39 @@ fn script_with(alloc: Global, line: &[u8], byte: u8, count: usize) -> Result<Vec
     Ok(script)
 }
 
+/// Whether this error, or none, is told of the script with the byte so many times at its end.
+fn is_told(
+    alloc: Global,
+    line: &[u8],
+    byte: u8,
+    count: usize,
+    error: Option<ScriptError>,
+) -> Result<bool, AllocError> {
+    let script = script_with(alloc, line, byte, count)?;
+    Ok(error_of(alloc, &script) == error)
+}
+
 #[test]
 fn takes_long_lines(rt: HostRuntime) -> Result<(), Fail> {
     let alloc = rt.alloc();
-    let get = script_with(alloc, b"get 0 ONE ", b'k', 100_000)?;
-    assert_eq!(rt; error_of(alloc, &get), None);
-    let cql = script_with(alloc, b"cql 0 ONE USE ks", b' ', 100_000)?;
-    assert_eq!(rt; error_of(alloc, &cql), None);
+    assert!(rt; is_told(alloc, b"get 0 ONE ", b'k', 100_000, None)?);
+    assert!(rt; is_told(alloc, b"cql 0 ONE USE ks", b' ', 100_000, None)?);
     Ok(())
 }
 
 #[test]
 fn bounds_lines(rt: HostRuntime) -> Result<(), Fail> {
     let alloc = rt.alloc();
-    let most = script_with(alloc, b"", b'\n', 1_000_000)?;
-    assert_eq!(rt; error_of(alloc, &most), None);
-    let more = script_with(alloc, b"", b'\n', 1_000_001)?;
-    assert_eq!(rt; error_of(alloc, &more), Some(ScriptError::TooMany));
-    let bad = script_with(alloc, b"get\n", b'\n', 1_000_001)?;
-    assert_eq!(rt; error_of(alloc, &bad), Some(ScriptError::Line(5)));
+    assert!(rt; is_told(alloc, b"", b'\n', 1_000_000, None)?);
+    assert!(rt; is_told(alloc, b"", b'\n', 1_000_001, Some(ScriptError::TooMany))?);
+    assert!(rt;
+        is_told(
+            alloc,
+            b"get\n",
+            b'\n',
+            1_000_001,
+            Some(ScriptError::Line(5))
+        )?
+    );
     Ok(())
 }

@@ -153,7 +153,7 @@ fn script(alloc: Global, call: u32, outcome: &str) -> Result<String, AllocError>
     let mut script = format!(in alloc;
         "cassandra-script 1\nring -3 0 3\nrf 3\nrun\nstopat 1 {call} {outcome}\n"
     )?;
-    for step in STEPS {
+    for step in &STEPS {
         script.push_str(step.before)?;
         script.push_str(step.request)?;
         script.push_str("settle 100\nget 1 ONE z\nrestart 1\n")?;
@@ -327,19 +327,42 @@ fn was_asked(place: usize, cell: Cell) -> bool {
         .any(|step| step.writes == Some(cell))
 }
 
+fn wrong(
+    alloc: Global,
+    outcome: &str,
+    call: u32,
+    place: usize,
+    text: &str,
+) -> Result<Fail, AllocError> {
+    let why = format!(in alloc; "{outcome} {call}: step {place} is wrong in {text}")?;
+    Ok(why.as_str().into())
+}
+
+/// Whether a node stopped in the run of which this is the print, each of whose answers is right.
+fn has_stopped(alloc: Global, text: &str, outcome: &str, call: u32) -> Result<bool, Fail> {
+    let answers = Answers::of(alloc, text)?;
+    match answers.first_wrong() {
+        Some(place) => Err(wrong(alloc, outcome, call, place, text)?),
+        None => Ok(answers.has_stopped),
+    }
+}
+
+/// Whether node 1 stops at this call.
+fn stops_at(alloc: Global, call: u32, outcome: &str) -> Result<bool, Fail> {
+    let text = printed(alloc, script(alloc, call, outcome)?.as_str())?;
+    if has_stopped(alloc, text.as_str(), outcome, call)? {
+        return Ok(true);
+    }
+    if text.as_str() != UNSTOPPED {
+        return Err("without a stop something else is answered".into());
+    }
+    Ok(false)
+}
+
 /// At how many calls node 1 stops, with this outcome, until there is none left.
 fn stops(alloc: Global, outcome: &str) -> Result<u32, Fail> {
     for call in 1..100 {
-        let text = printed(alloc, script(alloc, call, outcome)?.as_str())?;
-        let answers = Answers::of(alloc, text.as_str())?;
-        if let Some(place) = answers.first_wrong() {
-            let why = format!(in alloc; "{outcome} {call}: step {place} is wrong in {text}")?;
-            return Err(why.as_str().into());
-        }
-        if !answers.has_stopped {
-            if text.as_str() != UNSTOPPED {
-                return Err("without a stop something else is answered".into());
-            }
+        if !stops_at(alloc, call, outcome)? {
             return Ok(call.saturating_sub(1));
         }
     }
@@ -350,7 +373,7 @@ fn stops(alloc: Global, outcome: &str) -> Result<u32, Fail> {
 #[test]
 fn acknowledged_writes_outlive_stops(rt: HostRuntime) -> Result<(), Fail> {
     for outcome in ["kept", "lost", "torn"] {
-        assert_eq!(rt; stops(rt.alloc(), outcome)?, 28);
+        assert!(rt; stops(rt.alloc(), outcome)? == 28, "{outcome}");
     }
     Ok(())
 }

@@ -1,7 +1,6 @@
 //! Worked scripts of deadlines, marks and hints, with answers that were written by hand.
 
-use crate::running::of_three_nodes;
-use cluster_program::Status;
+use crate::running::three_nodes_answer;
 use std::test::Fail;
 
 // A deadline comes five seconds after its request began, and not a microsecond before; a second acknowledgement of one replica
@@ -37,10 +36,8 @@ fn tells_deadlines(rt: HostRuntime) -> Result<(), Fail> {
             "1 write-timeout received 1 blockfor 2 SIMPLE\n2 read-timeout received 1 blockfor 2 data 1\n",
         ),
     ];
-    for (lines, want) in cases {
-        let ended = of_three_nodes(rt.alloc(), lines)?;
-        assert_eq!(rt; ended.status, Status::Ok, "{lines}");
-        assert_eq!(rt; ended.text.as_slice(), want.as_bytes(), "{lines}");
+    for (lines, want) in &cases {
+        assert!(rt; three_nodes_answer(rt.alloc(), lines, want)?, "{lines}");
     }
     Ok(())
 }
@@ -63,10 +60,8 @@ fn sees_marks(rt: HostRuntime) -> Result<(), Fail> {
             "1 rows 0\n2 rows 0\n",
         ),
     ];
-    for (lines, want) in cases {
-        let ended = of_three_nodes(rt.alloc(), lines)?;
-        assert_eq!(rt; ended.status, Status::Ok, "{lines}");
-        assert_eq!(rt; ended.text.as_slice(), want.as_bytes(), "{lines}");
+    for (lines, want) in &cases {
+        assert!(rt; three_nodes_answer(rt.alloc(), lines, want)?, "{lines}");
     }
     Ok(())
 }
@@ -99,10 +94,8 @@ fn hands_hints_over(rt: HostRuntime) -> Result<(), Fail> {
             "1 ok\n3 rows 2\n 'a' | 'x'\n 'b' | 'y'\n",
         ),
     ];
-    for (lines, want) in cases {
-        let ended = of_three_nodes(rt.alloc(), lines)?;
-        assert_eq!(rt; ended.status, Status::Ok, "{lines}");
-        assert_eq!(rt; ended.text.as_slice(), want.as_bytes(), "{lines}");
+    for (lines, want) in &cases {
+        assert!(rt; three_nodes_answer(rt.alloc(), lines, want)?, "{lines}");
     }
     Ok(())
 }
@@ -114,8 +107,6 @@ fn refuses_too_many(rt: HostRuntime) -> Result<(), Fail> {
     for _ in 0..1025 {
         lines.push_str("get 0 QUORUM k\n")?;
     }
-    let ended = of_three_nodes(rt.alloc(), lines.as_str())?;
-    assert_eq!(rt; ended.status, Status::Ok);
-    assert_eq!(rt; ended.text.as_slice(), "1025 overloaded\n".as_bytes());
+    assert!(rt; three_nodes_answer(rt.alloc(), lines.as_str(), "1025 overloaded\n")?);
     Ok(())
 }

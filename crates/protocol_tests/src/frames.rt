@@ -5,7 +5,8 @@ ghost use Rattle.std.specs.Prelude.{◌≤◌, length};
 use cs_base::Bytes;
 use frame_v4::{Decoded, Frame, FrameError, Framer, Frames, decode, write_frame, write_request};
 use std::alloc::{AllocError, Global};
-use std::test::*;
+use std::process::Abort;
+use std::test::Fail;
 
 /// Requests of a connection that begins, in order: stream, opcode and bytes. They are written by hand after the protocol's
 /// text: STARTUP, QUERY, PREPARE, EXECUTE, QUERY, QUERY and EXECUTE.
@@ -125,9 +126,8 @@ fn digit(character: u8) -> u8 {
     }
 }
 
-/// The bytes of hexadecimal text, in which spaces don't count.
-fn unhex(alloc: Global, text: &str) -> Result<Vec<u8>, AllocError> {
-    let mut bytes = Vec::new(alloc);
+/// Adds the bytes of hexadecimal text, in which spaces don't count.
+fn push_hex(bytes: &mut Vec<u8>, text: &str) -> Result<(), AllocError> {
     let mut high = None;
     for character in text.as_bytes() {
         if *character == b' ' {
@@ -141,27 +141,61 @@ fn unhex(alloc: Global, text: &str) -> Result<Vec<u8>, AllocError> {
             }
         }
     }
+    Ok(())
+}
+
+fn unhex(alloc: Global, text: &str) -> Result<Vec<u8>, AllocError> {
+    let mut bytes = Vec::new(alloc);
+    push_hex(&mut bytes, text)?;
     Ok(bytes)
 }
 
-/// What comes of the bytes in three pieces. After a refusal the other pieces are fed all the same.
+fn append(frames: &mut Vec<Frame>, more: Frames) -> Result<(), AllocError> {
+    frames.append(&mut more.into_vec())
+}
+
+/// Adds the frames that come of a piece, and tells why it is refused.
+fn feed(
+    framer: &mut Framer,
+    frames: &mut Vec<Frame>,
+    piece: &[u8],
+) -> Result<Option<FrameError>, FrameError> {
+    match framer.feed(piece) {
+        Ok(given) => {
+            append(frames, given)?;
+            Ok(None)
+        }
+        Err(FrameError::NoMemory) => Err(FrameError::NoMemory),
+        Err(error) => {
+            append(frames, framer.taken())?;
+            Ok(Some(error))
+        }
+    }
+}
+
+/// What comes of three pieces. After a refusal the other pieces are fed all the same.
+fn feed_all(
+    framer: &mut Framer,
+    frames: &mut Vec<Frame>,
+    pieces: [&[u8]; 3],
+) -> Result<Option<FrameError>, FrameError> {
+    let mut refusal = None;
+    for piece in pieces {
+        if let Some(error) = feed(framer, frames, piece)? {
+            refusal = Some(error);
+        }
+    }
+    Ok(refusal)
+}
+
+/// What comes of the bytes in three pieces.
 fn cut(alloc: Global, bytes: &[u8], first: usize, second: usize) -> Result<Decoded, FrameError>
     requires in_order { first ≤ second }
     requires within { second ≤ length bytes.now }
 {
-    let mut framer = Framer::new(alloc);
+    let pieces = [&bytes[..first], &bytes[first..second], &bytes[second..]];
     let mut frames = Vec::new(alloc);
-    let mut refusal = None;
-    for piece in [&bytes[..first], &bytes[first..second], &bytes[second..]] {
-        match framer.feed(piece) {
-            Ok(given) => frames.append(&mut given.into_vec())?,
-            Err(FrameError::NoMemory) => return Err(FrameError::NoMemory),
-            Err(error) => {
-                frames.append(&mut framer.taken().into_vec())?;
-                refusal = Some(error);
-            }
-        }
-    }
+    let refusal = feed_all(&mut Framer::new(alloc), &mut frames, pieces)?;
     Ok(Decoded {
         frames: Frames::from_vec(frames),
         refusal,
@@ -177,169 +211,330 @@ fn is_row(frame: &Frame, stream: i16, opcode: u8, bytes: &[u8]) -> bool {
         && frame.body.as_slice() == &bytes[9..]
 }
 
-/// Each request, cut at each place, and the short ones at each two places.
+/// There is no refusal, and one frame, which has these fields and the bytes.
+fn is_request(decoded: &Decoded, row: (i16, u8, &str), bytes: &[u8]) -> bool {
+    match decoded.frames.as_slice() {
+        [frame] => decoded.refusal.is_none() && is_row(frame, row.0, row.1, bytes),
+        _ => false,
+    }
+}
+
+fn comes_of_pieces(
+    alloc: Global,
+    row: (i16, u8, &str),
+    bytes: &[u8],
+    first: usize,
+    second: usize,
+) -> Result<bool, FrameError>
+    requires in_order { first ≤ second }
+    requires within { second ≤ length bytes.now }
+{
+    let decoded = cut(alloc, bytes, first, second)?;
+    Ok(is_request(&decoded, row, bytes))
+}
+
+/// A request, cut at each place, and a short one at each two places.
+fn request_in_any_pieces(
+    rt: &impl Abort,
+    alloc: Global,
+    row: (i16, u8, &str),
+    bytes: &[u8],
+) -> Result<(), FrameError> {
+    let text = row.2;
+    for first in 0..bytes.len() + 1 {
+        let most = if bytes.len() <= 32 {
+            bytes.len()
+        } else {
+            first
+        };
+        for second in first..most + 1 {
+            assert!(rt;
+                comes_of_pieces(alloc, row, bytes, first, second)?,
+                "{text} {first} {second}"
+            );
+        }
+    }
+    Ok(())
+}
+
 #[test]
 fn requests_in_any_pieces(rt: HostRuntime) -> Result<(), Fail> {
     for rows in [CONNECTION.as_slice(), DRIVER.as_slice()] {
-        for (stream, opcode, text) in rows {
-            let bytes = unhex(rt.alloc(), text)?;
-            for first in 0..bytes.len() + 1 {
-                let most = if bytes.len() <= 32 {
-                    bytes.len()
-                } else {
-                    first
-                };
-                for second in first..most + 1 {
-                    let decoded = cut(rt.alloc(), &bytes, first, second)?;
-                    let frames = decoded.frames.as_slice();
-                    assert_eq!(rt; decoded.refusal, None);
-                    assert_eq!(rt; frames.len(), 1);
-                    assert!(rt;
-                        is_row(&frames[0], *stream, *opcode, &bytes),
-                        "{text} {first} {second}"
-                    );
-                }
-            }
+        for row in rows {
+            let bytes = unhex(rt.alloc(), row.2)?;
+            request_in_any_pieces(&rt, rt.alloc(), *row, &bytes)?;
         }
     }
     Ok(())
 }
 
-/// A connection's stream, with a frame at its end that is too long, cut at each place.
+/// A connection's stream, with a frame at its end that is too long.
+fn connection(alloc: Global) -> Result<Vec<u8>, AllocError> {
+    let mut stream = Vec::new(alloc);
+    for (_, _, text) in &CONNECTION {
+        push_hex(&mut stream, text)?;
+    }
+    push_hex(&mut stream, "04 00 0007 07 01000001 00000001 41")?;
+    Ok(stream)
+}
+
+fn is_frame(alloc: Global, frame: &Frame, row: (i16, u8, &str)) -> Result<bool, AllocError> {
+    Ok(is_row(frame, row.0, row.1, &unhex(alloc, row.2)?))
+}
+
+fn are_connection(alloc: Global, frames: &[Frame]) -> Result<bool, AllocError> {
+    for (row, frame) in CONNECTION.iter().zip(frames) {
+        if !is_frame(alloc, frame, *row)? {
+            return Ok(false);
+        }
+    }
+    Ok(frames.len() == CONNECTION.len())
+}
+
+fn is_connection(alloc: Global, stream: &[u8], place: usize) -> Result<bool, FrameError>
+    requires within { place ≤ length stream.now }
+{
+    let decoded = cut(alloc, stream, place, place)?;
+    let refusal = FrameError::TooLong(7, 16_777_217);
+    Ok(decoded.refusal == Some(refusal) && are_connection(alloc, decoded.frames.as_slice())?)
+}
+
+/// The stream, cut at each place.
+fn connection_in_any_pieces(
+    rt: &impl Abort,
+    alloc: Global,
+    stream: &[u8],
+) -> Result<(), FrameError> {
+    for place in 0..stream.len() + 1 {
+        assert!(rt; is_connection(alloc, stream, place)?, "{place}");
+    }
+    Ok(())
+}
+
 #[test]
 fn stream_in_any_pieces(rt: HostRuntime) -> Result<(), Fail> {
-    let mut stream = Vec::new(rt.alloc());
-    for (_, _, text) in &CONNECTION {
-        stream.append(&mut unhex(rt.alloc(), text)?)?;
-    }
-    stream.append(&mut unhex(rt.alloc(), "04 00 0007 07 01000001 00000001 41")?)?;
-    for place in 0..stream.len() + 1 {
-        let decoded = cut(rt.alloc(), &stream, place, place)?;
-        let frames = decoded.frames.as_slice();
-        assert_eq!(rt; decoded.refusal, Some(FrameError::TooLong(7, 16_777_217)));
-        assert_eq!(rt; frames.len(), CONNECTION.len());
-        for ((number, opcode, text), frame) in CONNECTION.iter().zip(frames) {
-            let bytes = unhex(rt.alloc(), text)?;
-            assert!(rt; is_row(frame, *number, *opcode, &bytes), "{text} {place}");
+    let stream = connection(rt.alloc())?;
+    connection_in_any_pieces(&rt, rt.alloc(), &stream)?;
+    Ok(())
+}
+
+/// Streams and their refusals.
+const REFUSALS: [(&str, FrameError); 10] = [
+    ("05", FrameError::Version(5)),
+    ("84 00 0000 02 00000000", FrameError::Version(0x84)),
+    ("00", FrameError::Version(0)),
+    ("04 01 0001 07 00000000", FrameError::Compressed(1)),
+    // The flag comes before the length, and other flags pass.
+    ("04 03 0102 07 FFFFFFFF", FrameError::Compressed(258)),
+    ("04 01 FFFF 07 7FFFFFFF 00", FrameError::Compressed(-1)),
+    ("04 0E 0001 07 FFFFFFFF", FrameError::NegativeLength(1, -1)),
+    (
+        "04 00 8000 07 80000000",
+        FrameError::NegativeLength(-32768, -2_147_483_648),
+    ),
+    (
+        "04 00 7FFF 07 01000001",
+        FrameError::TooLong(32767, 16_777_217),
+    ),
+    (
+        "04 00 FFFE 07 7FFFFFFF",
+        FrameError::TooLong(-2, 2_147_483_647),
+    ),
+];
+
+/// The stream of the text between two frames.
+fn between_frames(alloc: Global, text: &str) -> Result<Vec<u8>, AllocError> {
+    let mut stream = unhex(alloc, "04 0A FFFE 05 00000002 ABCD")?;
+    push_hex(&mut stream, text)?;
+    push_hex(&mut stream, "04 00 0001 05 00000000")?;
+    Ok(stream)
+}
+
+/// Whether the first of these frames alone is there, and this refusal.
+fn is_refused(decoded: &Decoded, refusal: FrameError) -> bool {
+    match decoded.frames.as_slice() {
+        [frame] => {
+            decoded.refusal == Some(refusal)
+                && frame.flags == 0x0A
+                && frame.stream == -2
+                && frame.body.as_slice() == b"\xAB\xCD".as_slice()
         }
+        _ => false,
+    }
+}
+
+fn is_refused_in_pieces(
+    alloc: Global,
+    refusal: FrameError,
+    stream: &[u8],
+    place: usize,
+) -> Result<bool, FrameError>
+    requires within { place ≤ length stream.now }
+{
+    let decoded = cut(alloc, stream, place, place)?;
+    Ok(is_refused(&decoded, refusal))
+}
+
+/// The stream, cut at each place.
+fn refusal_in_any_pieces(
+    rt: &impl Abort,
+    alloc: Global,
+    (text, refusal): (&str, FrameError),
+    stream: &[u8],
+) -> Result<(), FrameError> {
+    for place in 0..stream.len() + 1 {
+        assert!(rt;
+            is_refused_in_pieces(alloc, refusal, stream, place)?,
+            "{text} {place}"
+        );
     }
     Ok(())
 }
 
-/// Streams and their refusals. A frame before each of them is kept, and what comes behind changes nothing.
+/// A frame before a refusal is kept, and what comes behind changes nothing.
 #[test]
 fn refusals(rt: HostRuntime) -> Result<(), Fail> {
-    for (text, refusal) in [
-        ("05", FrameError::Version(5)),
-        ("84 00 0000 02 00000000", FrameError::Version(0x84)),
-        ("00", FrameError::Version(0)),
-        ("04 01 0001 07 00000000", FrameError::Compressed(1)),
-        // The flag comes before the length, and other flags pass.
-        ("04 03 0102 07 FFFFFFFF", FrameError::Compressed(258)),
-        ("04 01 FFFF 07 7FFFFFFF 00", FrameError::Compressed(-1)),
-        ("04 0E 0001 07 FFFFFFFF", FrameError::NegativeLength(1, -1)),
-        (
-            "04 00 8000 07 80000000",
-            FrameError::NegativeLength(-32768, -2_147_483_648),
-        ),
-        (
-            "04 00 7FFF 07 01000001",
-            FrameError::TooLong(32767, 16_777_217),
-        ),
-        (
-            "04 00 FFFE 07 7FFFFFFF",
-            FrameError::TooLong(-2, 2_147_483_647),
-        ),
-    ] {
-        let mut stream = unhex(rt.alloc(), "04 0A FFFE 05 00000002 ABCD")?;
-        stream.append(&mut unhex(rt.alloc(), text)?)?;
-        stream.append(&mut unhex(rt.alloc(), "04 00 0001 05 00000000")?)?;
-        for place in 0..stream.len() + 1 {
-            let decoded = cut(rt.alloc(), &stream, place, place)?;
-            let frames = decoded.frames.as_slice();
-            assert_eq!(rt; decoded.refusal, Some(refusal), "{text} {place}");
-            assert_eq!(rt; frames.len(), 1);
-            assert_eq!(rt; frames[0].flags, 0x0A);
-            assert_eq!(rt; frames[0].stream, -2);
-            assert_eq!(rt; frames[0].body.as_slice(), b"\xAB\xCD".as_slice());
-        }
+    for row in &REFUSALS {
+        let stream = between_frames(rt.alloc(), row.0)?;
+        refusal_in_any_pieces(&rt, rt.alloc(), *row, &stream)?;
     }
     Ok(())
+}
+
+/// Whether no frame and no refusal comes of the bytes.
+fn gives_nothing(alloc: Global, bytes: &[u8]) -> Result<bool, FrameError> {
+    let decoded = cut(alloc, bytes, 0, bytes.len())?;
+    Ok(decoded.refusal.is_none() && decoded.frames.as_slice().is_empty())
+}
+
+fn is_held(alloc: Global, text: &str) -> Result<bool, FrameError> {
+    gives_nothing(alloc, &unhex(alloc, text)?)
 }
 
 /// What is refused only when nine bytes are there, and the longest body, are held.
 #[test]
 fn held_so_far(rt: HostRuntime) -> Result<(), Fail> {
-    for text in [
+    for text in &[
         "04",
         "04 01 0001 07 000000",
         "04 00 0001 07 FFFFFF",
         "04 00 0001 07 01000000",
     ] {
-        let bytes = unhex(rt.alloc(), text)?;
-        let decoded = cut(rt.alloc(), &bytes, 0, bytes.len())?;
-        assert_eq!(rt; decoded.refusal, None, "{text}");
-        assert_eq!(rt; decoded.frames.as_slice().len(), 0);
+        assert!(rt; is_held(rt.alloc(), text)?, "{text}");
     }
     Ok(())
 }
 
-/// A body of 16 MiB in pieces of 1 KiB takes a time in line with its length.
-#[test]
-fn longest_body_in_small_pieces(rt: HostRuntime) -> Result<(), Fail> {
-    let mut framer = Framer::new(rt.alloc());
-    let begun = framer.feed(&unhex(rt.alloc(), "04 00 0001 0A 01000000")?)?;
-    assert_eq!(rt; begun.as_slice().len(), 0);
-    let piece = [7u8; 1024];
-    for _ in 1..16384 {
-        assert_eq!(rt; framer.feed(&piece)?.as_slice().len(), 0);
+fn are_sevens(bytes: &[u8]) -> bool {
+    for byte in bytes {
+        if *byte != 7 {
+            return false;
+        }
     }
-    let given = framer.feed(&piece)?;
-    let frames = given.as_slice();
-    assert_eq!(rt; frames.len(), 1);
-    assert_eq!(rt; frames[0].stream, 1);
-    assert_eq!(rt; frames[0].body.as_slice().len(), 16_777_216);
-    assert!(rt; frames[0].body.as_slice().iter().all(|byte| *byte == 7));
+    true
+}
+
+fn is_longest(frames: &[Frame]) -> bool {
+    match frames {
+        [frame] => {
+            let body = frame.body.as_slice();
+            frame.stream == 1 && body.len() == 16_777_216 && are_sevens(body)
+        }
+        _ => false,
+    }
+}
+
+/// Whether no frame comes of the piece.
+fn gives_none(framer: &mut Framer, piece: &[u8]) -> Result<bool, FrameError> {
+    Ok(framer.feed(piece)?.as_slice().is_empty())
+}
+
+/// Whether the longest body comes of so many of the piece, with the last of them.
+fn gives_longest(framer: &mut Framer, piece: &[u8], count: usize) -> Result<bool, FrameError> {
+    for _ in 1..count {
+        if !gives_none(framer, piece)? {
+            return Ok(false);
+        }
+    }
+    Ok(is_longest(framer.feed(piece)?.as_slice()))
+}
+
+fn gives_longest_in(alloc: Global, length: usize, count: usize) -> Result<bool, FrameError> {
+    let mut framer = Framer::new(alloc);
+    if !gives_none(&mut framer, b"\x04\x00\x00\x01\x0A\x01\x00\x00\x00")? {
+        return Ok(false);
+    }
+    let piece = vec![in alloc; 7u8; length]?;
+    gives_longest(&mut framer, &piece, count)
+}
+
+/// A body of 16 MiB in pieces of 1 KiB takes a time in line with its length, and comes in large pieces too.
+#[test]
+fn longest_body_in_pieces(rt: HostRuntime) -> Result<(), Fail> {
+    for (length, count) in [(1024, 16384), (262_144, 64)] {
+        assert!(rt; gives_longest_in(rt.alloc(), length, count)?, "{length}");
+    }
     Ok(())
 }
 
-#[test]
-fn longest_body_in_large_pieces(rt: HostRuntime) -> Result<(), Fail> {
-    let mut framer = Framer::new(rt.alloc());
-    let begun = framer.feed(&unhex(rt.alloc(), "04 00 0001 0A 01000000")?)?;
-    assert_eq!(rt; begun.as_slice().len(), 0);
-    let piece = vec![in rt.alloc(); 7u8; 262_144]?;
-    for _ in 1..64 {
-        assert_eq!(rt; framer.feed(&piece)?.as_slice().len(), 0);
-    }
-    let given = framer.feed(&piece)?;
-    let frames = given.as_slice();
-    assert_eq!(rt; frames.len(), 1);
-    assert_eq!(rt; frames[0].body.as_slice().len(), 16_777_216);
-    assert!(rt; frames[0].body.as_slice().iter().all(|byte| *byte == 7));
-    Ok(())
+fn taken_count(framer: &mut Framer) -> usize {
+    framer.taken().as_slice().len()
+}
+
+/// Whether the piece is refused as the stream is.
+fn is_bad_version(framer: &mut Framer, piece: &[u8]) -> bool {
+    framer.feed(piece).err() == Some(FrameError::Version(255))
+}
+
+fn are_taken_once(framer: &mut Framer, stream: &[u8]) -> bool {
+    taken_count(framer) == 0
+        && is_bad_version(framer, stream)
+        && is_bad_version(framer, b"\x04")
+        && taken_count(framer) == 2
+        && taken_count(framer) == 0
+        && is_bad_version(framer, &[])
+}
+
+fn are_taken(alloc: Global, text: &str) -> Result<bool, AllocError> {
+    let stream = unhex(alloc, text)?;
+    Ok(are_taken_once(&mut Framer::new(alloc), &stream))
 }
 
 /// The frames before a refusal are taken once.
 #[test]
 fn frames_are_taken(rt: HostRuntime) -> Result<(), Fail> {
-    let stream = unhex(
-        rt.alloc(),
-        "04 00 0001 05 00000000 04 00 0002 05 00000000 FF",
-    )?;
-    let mut framer = Framer::new(rt.alloc());
-    assert_eq!(rt; framer.taken().as_slice().len(), 0);
-    assert!(rt; framer.feed(&stream).is_err());
-    assert_eq!(rt; framer.feed(b"\x04").err(), Some(FrameError::Version(255)));
-    assert_eq!(rt; framer.taken().as_slice().len(), 2);
-    assert_eq!(rt; framer.taken().as_slice().len(), 0);
-    assert_eq!(rt; framer.feed(&[]).err(), Some(FrameError::Version(255)));
+    let stream = "04 00 0001 05 00000000 04 00 0002 05 00000000 FF";
+    assert!(rt; are_taken(rt.alloc(), stream)?);
     Ok(())
+}
+
+fn frame(alloc: Global, stream: i16, opcode: u8, body: &str) -> Result<Frame, AllocError> {
+    Ok(Frame {
+        flags: 0,
+        stream,
+        opcode,
+        body: Bytes::from_vec(unhex(alloc, body)?),
+    })
+}
+
+fn is_written(alloc: Global, frame: &Frame, bytes: &[u8]) -> Result<bool, AllocError> {
+    if frame.body.as_slice().len() >= 100 {
+        return Ok(false);
+    }
+    Ok(write_frame(alloc, frame)?.as_slice() == bytes)
+}
+
+fn is_spelled(
+    alloc: Global,
+    (stream, opcode, body, text): (i16, u8, &str, &str),
+) -> Result<bool, AllocError> {
+    let bytes = unhex(alloc, text)?;
+    is_written(alloc, &frame(alloc, stream, opcode, body)?, &bytes)
 }
 
 #[test]
 fn written_as_spelled(rt: HostRuntime) -> Result<(), Fail> {
-    for (stream, opcode, body, text) in [
+    for row in &[
         (0, 0x02, "", "84 00 0000 02 00000000"),
         (
             1,
@@ -355,45 +550,65 @@ fn written_as_spelled(rt: HostRuntime) -> Result<(), Fail> {
             "84 00 0005 00 00000016 0000000A 0010 6261642076616C7565206C656E677468",
         ),
     ] {
-        let frame = Frame {
-            flags: 0,
-            stream,
-            opcode,
-            body: Bytes::from_vec(unhex(rt.alloc(), body)?),
-        };
-        assert!(rt; frame.body.as_slice().len() < 100);
-        let bytes = write_frame(rt.alloc(), &frame)?;
-        assert_eq!(rt;
-            bytes.as_slice(),
-            unhex(rt.alloc(), text)?.as_slice(),
-            "{text}"
-        );
+        let text = row.3;
+        assert!(rt; is_spelled(rt.alloc(), *row)?, "{text}");
     }
     Ok(())
+}
+
+fn requests_of_the_driver(alloc: Global) -> Result<Vec<Bytes>, AllocError> {
+    let mut pieces = Vec::new(alloc);
+    for (_, _, text) in &DRIVER {
+        pieces.push(Bytes::from_vec(unhex(alloc, text)?))?;
+    }
+    Ok(pieces)
+}
+
+fn is_written_again(alloc: Global, frame: &Frame, piece: &[u8]) -> Result<bool, AllocError> {
+    if frame.body.as_slice().len() >= 1000 {
+        return Ok(false);
+    }
+    Ok(write_request(alloc, frame)?.as_slice() == piece)
+}
+
+fn are_written_again(
+    alloc: Global,
+    frames: &[Frame],
+    pieces: &[Bytes],
+) -> Result<bool, AllocError> {
+    for (frame, piece) in frames.iter().zip(pieces) {
+        if !is_written_again(alloc, frame, piece.as_slice())? {
+            return Ok(false);
+        }
+    }
+    Ok(frames.len() == DRIVER.len())
+}
+
+fn are_decoded_and_written(alloc: Global, pieces: &[Bytes]) -> Result<bool, AllocError> {
+    let decoded = decode(alloc, pieces)?;
+    let frames = decoded.frames.as_slice();
+    Ok(decoded.refusal.is_none() && are_written_again(alloc, frames, pieces)?)
+}
+
+fn are_the_drivers(alloc: Global) -> Result<bool, AllocError> {
+    let pieces = requests_of_the_driver(alloc)?;
+    are_decoded_and_written(alloc, &pieces)
 }
 
 /// What the driver wrote is decoded from pieces and written again.
 #[test]
 fn requests_are_written_again(rt: HostRuntime) -> Result<(), Fail> {
-    let mut pieces = Vec::new(rt.alloc());
-    for (_, _, text) in &DRIVER {
-        pieces.push(Bytes::from_vec(unhex(rt.alloc(), text)?))?;
-    }
-    let decoded = decode(rt.alloc(), &pieces)?;
-    let frames = decoded.frames.as_slice();
-    assert_eq!(rt; decoded.refusal, None);
-    assert_eq!(rt; frames.len(), DRIVER.len());
-    for (frame, piece) in frames.iter().zip(&pieces) {
-        assert!(rt; frame.body.as_slice().len() < 1000);
-        let bytes = write_request(rt.alloc(), frame)?;
-        assert_eq!(rt; bytes.as_slice(), piece.as_slice());
-    }
+    assert!(rt; are_the_drivers(rt.alloc())?);
     Ok(())
+}
+
+fn is_printed(alloc: Global, error: FrameError, text: &str) -> Result<bool, AllocError> {
+    Ok(format!(in alloc; "{error}")?.as_str() == text)
 }
 
 #[test]
 fn refusals_print(rt: HostRuntime) -> Result<(), Fail> {
-    for (error, text) in [
+    for (error, text) in &[
         (FrameError::Version(5), "version byte 0x05 in place of 0x04"),
         (FrameError::Compressed(-1), "compressed frame on stream -1"),
         (
@@ -406,8 +621,7 @@ fn refusals_print(rt: HostRuntime) -> Result<(), Fail> {
         ),
         (FrameError::NoMemory, "out of memory"),
     ] {
-        let printed = format!(in rt.alloc(); "{error}")?;
-        assert_eq!(rt; printed.as_str(), text);
+        assert!(rt; is_printed(rt.alloc(), *error, text)?, "{text}");
     }
     Ok(())
 }

@@ -1,10 +1,10 @@
 //! Requests: frames of the DataStax Python driver 3.25, and bodies by hand.
 
-use crate::rows::word;
+use crate::rows::{each_line, is_fault, is_shown, word};
 use cs_base::Bytes;
-use frame_bodies::{BodyError, decode_request, encode_request};
+use frame_bodies::{BodyError, Request, decode_request, encode_request};
 use frame_v4::Frame;
-use std::alloc::Global;
+use std::alloc::{AllocError, Global};
 use std::test::Fail;
 
 /// Flags and opcode, and the body, of frames as the driver writes them.
@@ -224,95 +224,109 @@ const WHOLE: &str = "0001 0001000b43514c5f56455253494f4e0005332e302e30
 000d 0100020000000001780001ffffffff01000179000000043000080000000000000011
 0409 000200016bffffffff000000000001000000000178";
 
-fn frame(alloc: Global, head: &str, body: &str) -> Result<Frame, Fail> {
-    let head = hex::decode(alloc, head)?;
-    let body = hex::decode(alloc, body)?;
-    let (flags, opcode) = match head.as_slice() {
+/// Flags and opcode.
+fn flags_and_opcode(alloc: Global, head: &str) -> Result<(u8, u8), Fail> {
+    Ok(match hex::decode(alloc, head)?.as_slice() {
         [flags, opcode] => (*flags, *opcode),
         _ => (0xff, 0xff),
-    };
+    })
+}
+
+fn frame(alloc: Global, head: &str, body: &str) -> Result<Frame, Fail> {
+    let (flags, opcode) = flags_and_opcode(alloc, head)?;
     Ok(Frame {
         flags,
         stream: 1,
         opcode,
-        body: Bytes::from_vec(body),
+        body: Bytes::from_vec(hex::decode(alloc, body)?),
     })
+}
+
+fn is_written(alloc: Global, request: &Request, frame: &Frame) -> Result<bool, AllocError> {
+    if request.opcode() != frame.opcode || !request.has_word() {
+        return Ok(false);
+    }
+    Ok(encode_request(alloc, request)?.as_slice() == frame.body.as_slice())
+}
+
+/// Whether the frame is decoded, and its request is written as the same body.
+fn are_the_same(alloc: Global, frame: &Frame) -> Result<bool, Fail> {
+    let request = decode_request(alloc, frame)?;
+    let holds = is_written(alloc, &request, frame);
+    drop(request);
+    Ok(holds?)
 }
 
 fn is_written_again(alloc: Global, line: &str) -> Result<bool, Fail> {
     let (head, body) = word(line);
-    let frame = frame(alloc, head, body)?;
-    let request = decode_request(alloc, &frame)?;
-    if !request.has_word() {
-        return Ok(false);
-    }
-    let again = encode_request(alloc, &request)?;
-    Ok(request.opcode() == frame.opcode && again.as_slice() == frame.body.as_slice())
+    are_the_same(alloc, &frame(alloc, head, body)?)
 }
 
 #[test]
 fn frames_of_the_driver_are_written_again(rt: HostRuntime) -> Result<(), Fail> {
-    for line in DRIVER.lines() {
-        assert!(rt; is_written_again(rt.alloc(), line)?, "{line}");
-    }
-    Ok(())
+    each_line(&rt, rt.alloc(), DRIVER, is_written_again)
+}
+
+/// Whether this is shown of the frame's request.
+fn is_request(alloc: Global, frame: &Frame, want: &str) -> Result<bool, Fail> {
+    let request = decode_request(alloc, frame)?;
+    let holds = is_shown(alloc, &request, want);
+    drop(request);
+    Ok(holds?)
 }
 
 fn is_decoded(alloc: Global, line: &str) -> Result<bool, Fail> {
     let (head, rest) = word(line);
     let (body, want) = word(rest);
-    let request = decode_request(alloc, &frame(alloc, head, body)?)?;
-    Ok(format!(in alloc; "{request:?}")?.as_str() == want)
+    is_request(alloc, &frame(alloc, head, body)?, want)
 }
 
 #[test]
 fn bodies_are_decoded(rt: HostRuntime) -> Result<(), Fail> {
-    for line in BODIES.lines() {
-        assert!(rt; is_decoded(rt.alloc(), line)?, "{line}");
-    }
-    Ok(())
+    each_line(&rt, rt.alloc(), BODIES, is_decoded)
 }
 
 fn is_answered(alloc: Global, line: &str) -> Result<bool, Fail> {
     let (head, rest) = word(line);
     let (body, want) = word(rest);
-    match decode_request(alloc, &frame(alloc, head, body)?) {
-        Ok(_) => Ok(want == "taken"),
-        Err(error) => Ok(format!(in alloc; "{error:?}")?.as_str() == want),
-    }
+    let fault = decode_request(alloc, &frame(alloc, head, body)?).err();
+    Ok(is_fault(alloc, fault, want)?)
 }
 
 /// Each refusal at its place, and its neighbour.
 #[test]
 fn faults_are_found(rt: HostRuntime) -> Result<(), Fail> {
-    for line in FAULTS.lines() {
-        assert!(rt; is_answered(rt.alloc(), line)?, "{line}");
-    }
-    Ok(())
+    each_line(&rt, rt.alloc(), FAULTS, is_answered)
 }
 
-fn are_short(alloc: Global, line: &str) -> Result<bool, Fail> {
-    let (head, body) = word(line);
-    let whole = frame(alloc, head, body)?;
-    let bytes = whole.body.as_slice();
+fn is_short(alloc: Global, flags: u8, opcode: u8, front: &[u8]) -> Result<bool, AllocError> {
+    let frame = Frame {
+        flags,
+        stream: 1,
+        opcode,
+        body: Bytes::from_slice(alloc, front)?,
+    };
+    let fault = decode_request(alloc, &frame).err();
+    Ok(matches!(fault, Some(BodyError::Short(_))))
+}
+
+fn beginnings_of(alloc: Global, flags: u8, opcode: u8, bytes: &[u8]) -> Result<bool, AllocError> {
     for length in 0..bytes.len() {
-        let front = Frame {
-            flags: whole.flags,
-            stream: 1,
-            opcode: whole.opcode,
-            body: Bytes::from_slice(alloc, &bytes[..length])?,
-        };
-        if !matches!(decode_request(alloc, &front), Err(BodyError::Short(_))) {
+        if !is_short(alloc, flags, opcode, &bytes[..length])? {
             return Ok(false);
         }
     }
     Ok(true)
 }
 
+fn are_short(alloc: Global, line: &str) -> Result<bool, Fail> {
+    let (head, body) = word(line);
+    let (flags, opcode) = flags_and_opcode(alloc, head)?;
+    let bytes = hex::decode(alloc, body)?;
+    Ok(beginnings_of(alloc, flags, opcode, bytes.as_slice())?)
+}
+
 #[test]
 fn beginnings_are_short(rt: HostRuntime) -> Result<(), Fail> {
-    for line in WHOLE.lines() {
-        assert!(rt; are_short(rt.alloc(), line)?, "{line}");
-    }
-    Ok(())
+    each_line(&rt, rt.alloc(), WHOLE, are_short)
 }

@@ -1,8 +1,8 @@
 //! Responses: bodies by hand.
 
-use crate::rows::word;
-use frame_bodies::{BodyError, decode_response, encode_response};
-use std::alloc::Global;
+use crate::rows::{each_line, is_fault, is_shown, word};
+use frame_bodies::{BodyError, Response, decode_response, encode_response};
+use std::alloc::{AllocError, Global};
 use std::test::Fail;
 
 /// An opcode, a body, and what it is.
@@ -142,69 +142,80 @@ fn opcode(alloc: Global, head: &str) -> Result<u8, Fail> {
     })
 }
 
+fn is_written(
+    alloc: Global,
+    response: &Response,
+    opcode: u8,
+    bytes: &[u8],
+) -> Result<bool, AllocError> {
+    if response.opcode() != opcode || !response.has_word() {
+        return Ok(false);
+    }
+    Ok(encode_response(alloc, response)?.as_slice() == bytes)
+}
+
+fn is_response(
+    alloc: Global,
+    response: &Response,
+    (opcode, bytes): (u8, &[u8]),
+    want: &str,
+) -> Result<bool, AllocError> {
+    Ok(is_shown(alloc, response, want)? && is_written(alloc, response, opcode, bytes)?)
+}
+
+fn is_body(alloc: Global, opcode: u8, bytes: &[u8], want: &str) -> Result<bool, Fail> {
+    let response = decode_response(alloc, opcode, bytes)?;
+    let holds = is_response(alloc, &response, (opcode, bytes), want);
+    drop(response);
+    Ok(holds?)
+}
+
 fn is_decoded_and_written_again(alloc: Global, line: &str) -> Result<bool, Fail> {
     let (head, rest) = word(line);
     let (body, want) = word(rest);
     let opcode = opcode(alloc, head)?;
     let bytes = hex::decode(alloc, body)?;
-    let response = decode_response(alloc, opcode, bytes.as_slice())?;
-    if !response.has_word() {
-        return Ok(false);
-    }
-    let again = encode_response(alloc, &response)?;
-    let printed = format!(in alloc; "{response:?}")?;
-    Ok(
-        printed.as_str() == want
-            && response.opcode() == opcode
-            && again.as_slice() == bytes.as_slice(),
-    )
+    is_body(alloc, opcode, bytes.as_slice(), want)
 }
 
 #[test]
 fn bodies_are_decoded_and_written_again(rt: HostRuntime) -> Result<(), Fail> {
-    for line in BODIES.lines() {
-        assert!(rt; is_decoded_and_written_again(rt.alloc(), line)?, "{line}");
-    }
-    Ok(())
+    each_line(&rt, rt.alloc(), BODIES, is_decoded_and_written_again)
 }
 
 fn is_answered(alloc: Global, line: &str) -> Result<bool, Fail> {
     let (head, rest) = word(line);
     let (body, want) = word(rest);
+    let opcode = opcode(alloc, head)?;
     let bytes = hex::decode(alloc, body)?;
-    match decode_response(alloc, opcode(alloc, head)?, bytes.as_slice()) {
-        Ok(_) => Ok(want == "taken"),
-        Err(error) => Ok(format!(in alloc; "{error:?}")?.as_str() == want),
-    }
+    let fault = decode_response(alloc, opcode, bytes.as_slice()).err();
+    Ok(is_fault(alloc, fault, want)?)
 }
 
 /// Each refusal at its place, and its neighbour.
 #[test]
 fn faults_are_found(rt: HostRuntime) -> Result<(), Fail> {
-    for line in FAULTS.lines() {
-        assert!(rt; is_answered(rt.alloc(), line)?, "{line}");
+    each_line(&rt, rt.alloc(), FAULTS, is_answered)
+}
+
+fn beginnings_of(alloc: Global, opcode: u8, bytes: &[u8]) -> bool {
+    for length in 0..bytes.len() {
+        let fault = decode_response(alloc, opcode, &bytes[..length]).err();
+        if !matches!(fault, Some(BodyError::Short(_))) {
+            return false;
+        }
     }
-    Ok(())
+    true
 }
 
 fn are_short(alloc: Global, line: &str) -> Result<bool, Fail> {
     let (head, body) = word(line);
     let opcode = opcode(alloc, head)?;
-    let whole = hex::decode(alloc, body)?;
-    let bytes = whole.as_slice();
-    for length in 0..bytes.len() {
-        let decoded = decode_response(alloc, opcode, &bytes[..length]);
-        if !matches!(decoded, Err(BodyError::Short(_))) {
-            return Ok(false);
-        }
-    }
-    Ok(true)
+    let bytes = hex::decode(alloc, body)?;
+    Ok(beginnings_of(alloc, opcode, bytes.as_slice()))
 }
 
 #[test]
 fn beginnings_are_short(rt: HostRuntime) -> Result<(), Fail> {
-    for line in WHOLE.lines() {
-        assert!(rt; are_short(rt.alloc(), line)?, "{line}");
-    }
-    Ok(())
+    each_line(&rt, rt.alloc(), WHOLE, are_short)
 }

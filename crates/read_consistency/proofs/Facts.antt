@@ -14,8 +14,9 @@ use Rattle.changes.specs.Order.{Outranks, IsBeside}
 use Rattle.changes.specs.Contents.{IsReachedBy}
 use Rattle.changes.specs.Queries.{InQuery}
 use Rattle.row_change.specs.declared.entry.Hint as hint
+use Rattle.peer_messages.specs.declared.event.Plan.TheVariants as plans
 use Rattle.peer_messages.specs.declared.message.Body.{Body}
-use Rattle.peer_messages.specs.declared.message.Body.TheVariants.{Write, WriteAck, Read, ReadReply, Hint, HintAck}
+use Rattle.peer_messages.specs.declared.message.Body.TheVariants.{Write, WriteAck, Read, ReadReply, Mend, MendAck, Hint, HintAck}
 use Rattle.peer_messages.specs.declared.chronicle.Entry.{Entry}
 use Rattle.peer_messages.specs.declared.chronicle.Entry.TheVariants.{Asked, Submitted, Acked, Refused, Used, Began, Rows, Marks, Time, Turned, Tables, Stopped}
 use Rattle.peer_messages.specs.declared.outcome.Outbound.{Outbound}
@@ -25,7 +26,7 @@ use Rattle.durable_state.specs.State.{changes_of, Holds}
 use Rattle.node_steps.specs.State.{NodeState, OpenWrite, OpenRead}
 use Rattle.node_steps.specs.Hints.{request_of}
 use Rattle.node_steps.specs.Acts.{Deed}
-use Rattle.node_steps.specs.Reads.{heard_by}
+use Rattle.node_steps.specs.Reads.{heard_by, replies_of, read_needs}
 use Rattle.cluster_runs.specs.Chronicle.{submission_of, StandsBefore}
 use Rattle.cluster_runs.specs.Trace.{Scene, IsAskAt}
 use Rattle.read_consistency.specs.ReadRight.{ReadRight, HasStart}
@@ -42,9 +43,15 @@ Reaches content p x = Holds content p x ⊎ ((y : Held) × Holds content p y × 
 abbrev pub HasAll : Scene → ℕ → ReqId → Type 0
 HasAll w j id = (s : NodeState) → slice_get w.nodes j ≡ Some s → (m : Mutation) → submission_of w.chronicle id ≡ Some m → (x : Held) → Contains m.changes x → Reaches (changes_of s.content) m.partition x
 
--- whatever read began under this id asks this
-abbrev pub IsQueryOf : List Entry → ReqId → Query → Type 0
-IsQueryOf chronicle id q = (r : Query) (l : Level) (v : Columns) → Contains chronicle (Began id r l v) → r ≡ q
+-- The request was begun, and asks for the rows of this query at this level. The moves tell it, since of a lost one the
+-- chronicle has no start
+pub record IsReadOf (past : List Deed) (id : ReqId) (q : Query) (l : Level) : Type 0 where
+  pub deed : Deed
+  pub there : Contains past deed
+  pub at : IsAskAt id.node id.time deed
+  pub columns : Columns
+  pub asks : at.2.0.plan ≡ plans.Read q columns
+  pub level : at.2.0.level ≡ l
 
 -- the change is of a submitted mutation whose changes in its row are reached too
 pub record IsOf (chronicle : List Entry) (p : Partition) (Reached : Held → Type 0) (x : Held) : Type 0 where
@@ -69,15 +76,25 @@ pub record Answers (chronicle : List Entry) (q : Query) (content : List Held) : 
   pub of : (x : Held) → Contains content x → IsOf chronicle q.partition (ReachedIn q content) x
   pub inside : (x : Held) → Contains content x → InQuery q x
 
--- a reply of node j answers whatever the read of this id asks
-abbrev pub ReplyOk : Scene → ℕ → ReqId → List Held → Type 0
-ReplyOk w j id content = (q : Query) (l : Level) (v : Columns) → Contains w.chronicle (Began id q l v) → Answers w.chronicle q content × Sees w.chronicle id j q content
+-- a reply of node j answers what the read of this id asks
+pub record ReplyOk (w : Scene) (j : ℕ) (id : ReqId) (content : List Held) : Type 0 where
+  pub query : Query
+  pub level : Level
+  pub asked : IsReadOf w.past id query level
+  pub answers : Answers w.chronicle query content
+  pub sees : Sees w.chronicle id j query content
+
+-- each change of a merge is of a submitted mutation whose changes in its row the merge reaches too
+abbrev pub MendOk : List Entry → Mutation → Type 0
+MendOk chronicle m = (x : Held) → Contains m.changes x → IsOf chronicle m.partition (IsReachedBy m.changes) x
 
 abbrev pub BodyIs : Scene → ℕ → ReqId → Body → Type 0
 BodyIs w from id (Write m) = submission_of w.chronicle id ≡ Some m
 BodyIs w from id WriteAck = HasAll w from id
-BodyIs w from id (Read q) = IsQueryOf w.chronicle id q
+BodyIs w from id (Read q) = (l : Level) × IsReadOf w.past id q l
 BodyIs w from id (ReadReply content) = ReplyOk w from id content
+BodyIs w from id (Mend m) = MendOk w.chronicle m
+BodyIs w from id MendAck = Unit {0}
 BodyIs w from id (Hint number m) = submission_of w.chronicle id ≡ Some m
 BodyIs w from id (HintAck number) = Unit {0}
 
@@ -97,24 +114,19 @@ pub record HintOk (w : Scene) (k : ℕ) (h : hint.Hint) : Type 0 where
   pub begun : WasBegun w.past (request_of k h)
   pub is : submission_of w.chronicle (request_of k h) ≡ Some h.mutation
 
--- what is known of an open read, if it began with this
-pub record ReadIs (w : Scene) (id : ReqId) (o : OpenRead) (q : Query) (l : Level) : Type 0 where
-  pub query : q ≡ o.query
-  pub level : l ≡ o.level
-  pub answers : Answers w.chronicle q o.merged
-  pub sees : (j : ℕ) → Contains (heard_by o) j → Sees w.chronicle id j q o.merged
-
--- Of an open read of node k the start is in the chronicle, but for one that a lost move began: it is forgotten at the end of
--- the load
-pub record ReadOk (w : Scene) (k : ℕ) (id : ReqId) (o : OpenRead) : Type 0 where
-  pub begun : WasBegun w.past id
+-- An open read of node k. Its start is in the chronicle, but for one that a lost move began: it is forgotten at the end of the
+-- load. Once there is a merge for good, as many have replied as it waits for
+pub record ReadOk (c : Setting) (w : Scene) (k : ℕ) (id : ReqId) (o : OpenRead) : Type 0 where
   pub start : HasStart w.chronicle id ⊎ (w.losing ≡ Some k)
-  pub is : (q : Query) (l : Level) (v : Columns) → Contains w.chronicle (Began id q l v) → ReadIs w id o q l
+  pub asked : IsReadOf w.past id o.query o.level
+  pub answers : Answers w.chronicle o.query o.merged
+  pub sees : (j : ℕ) → Contains (heard_by o) j → Sees w.chronicle id j o.query o.merged
+  pub enough : (ks : List ℕ) → o.mending ≡ Some ks → read_needs c o ≤ replies_of c o
 
-pub record NodeOk (w : Scene) (k : ℕ) (s : NodeState) : Type 0 where
+pub record NodeOk (c : Setting) (w : Scene) (k : ℕ) (s : NodeState) : Type 0 where
   pub of : (p : Partition) (x : Held) → Holds (changes_of s.content) p x → IsOf w.chronicle p (Reaches (changes_of s.content) p) x
   pub writes : (id : ReqId) (o : OpenWrite) → Contains s.writes (id, o) → WriteOk w k id o
-  pub reads : (id : ReqId) (o : OpenRead) → Contains s.reads (id, o) → ReadOk w k id o
+  pub reads : (id : ReqId) (o : OpenRead) → Contains s.reads (id, o) → ReadOk c w k id o
   pub hints : (h : hint.Hint) → Contains s.hints h → HintOk w k h
 
 -- an acknowledged write was heard of by as many replicas as its level waits for, each of which has it
@@ -126,7 +138,7 @@ pub record AckedOk (c : Setting) (w : Scene) (id : ReqId) (l : Level) (heard : L
 abbrev pub EntryOk : Setting → Scene → Entry → Type 0
 EntryOk c w (Acked id l heard) = AckedOk c w id l heard
 EntryOk c w (Submitted id m) = Unit {0}
-EntryOk c w (Began id q l v) = WasBegun w.past id
+EntryOk c w (Began id q l v) = IsReadOf w.past id q l
 EntryOk c w (Used r keyspace) = Unit {0}
 EntryOk c w (Asked r) = Unit {0}
 EntryOk c w (Refused r refusal) = Unit {0}
@@ -138,7 +150,7 @@ EntryOk c w (Tables k n) = Unit {0}
 EntryOk c w (Stopped k) = Unit {0}
 
 pub record Explains (c : Setting) (w : Scene) : Type 0 where
-  pub nodes : (k : ℕ) (s : NodeState) → slice_get w.nodes k ≡ Some s → NodeOk w k s
+  pub nodes : (k : ℕ) (s : NodeState) → slice_get w.nodes k ≡ Some s → NodeOk c w k s
   pub bodies : (d : Deed) → Contains w.past d → (x : Outbound) → Contains d.effects.sends x → BodyOk w d.node x
   pub entries : (e : Entry) → Contains w.chronicle e → EntryOk c w e
   pub right : ReadRight c w.chronicle

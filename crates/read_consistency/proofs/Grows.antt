@@ -8,11 +8,10 @@ use Rattle.changes.specs.declared.Partition.{Partition}
 use Rattle.changes.specs.declared.Held.{Held}
 use Rattle.changes.specs.declared.Mutation.{Mutation}
 use Rattle.changes.specs.declared.Query.{Query}
-use Rattle.statement_plan.specs.declared.plan.Columns.{Columns}
 use Rattle.row_change.specs.declared.entry.Hint as hint
-use Rattle.cs_base.proofs.Members.{contains_cases, contains_here, contains_there}
+use Rattle.cs_base.proofs.Members.{contains_here, contains_there}
 use Rattle.peer_messages.specs.declared.message.Body.{Body}
-use Rattle.peer_messages.specs.declared.message.Body.TheVariants.{Write, WriteAck, Read, ReadReply, Hint, HintAck}
+use Rattle.peer_messages.specs.declared.message.Body.TheVariants.{Write, WriteAck, Read, ReadReply, Mend, MendAck, Hint, HintAck}
 use Rattle.peer_messages.specs.declared.chronicle.Entry.{Entry}
 use Rattle.peer_messages.specs.declared.chronicle.Entry.TheVariants.{Asked, Submitted, Acked, Refused, Used, Began, Rows, Marks, Time, Turned, Tables, Stopped}
 use Rattle.peer_messages.specs.declared.outcome.Outbound.{Outbound}
@@ -24,13 +23,12 @@ use Rattle.node_steps.specs.Acts.{Deed}
 use Rattle.cluster_runs.specs.Chronicle.{submission_of, StandsBefore}
 use Rattle.cluster_runs.specs.Trace.{Scene}
 use Rattle.cluster_runs.proofs.Submissions.{same_request, is_not}
-use Rattle.read_consistency.proofs.Facts.{WasBegun, Reaches, HasAll, IsQueryOf, IsOf, Sees, Answers, ReplyOk, BodyIs, BodyOk, WriteOk, HintOk, ReadOk, NodeOk, AckedOk, EntryOk, Explains}
+use Rattle.read_consistency.proofs.Facts.{WasBegun, Reaches, HasAll, IsReadOf, IsOf, Sees, Answers, ReplyOk, MendOk, BodyIs, BodyOk, WriteOk, HintOk, ReadOk, NodeOk, AckedOk, EntryOk, Explains}
 
 pub record Grows (w w' : Scene) : Type 0 where
   pub past : (d : Deed) → Contains w.past d → Contains w'.past d
   pub chronicle : (e : Entry) → Contains w.chronicle e → Contains w'.chronicle e
   pub submissions : (id : ReqId) → WasBegun w.past id → submission_of w'.chronicle id ≡ submission_of w.chronicle id
-  pub begins : (id : ReqId) (q : Query) (l : Level) (v : Columns) → WasBegun w.past id → Contains w'.chronicle (Began id q l v) → Contains w.chronicle (Began id q l v)
   pub starts : (id : ReqId) (e : Entry) → WasBegun w.past id → StandsBefore w'.chronicle id e → StandsBefore w.chronicle id e
   pub nodes : (j : ℕ) (s' : NodeState) → slice_get w'.nodes j ≡ Some s' → (s : NodeState) × (slice_get w.nodes j ≡ Some s) × ((p : Partition) (x : Held) → Reaches (changes_of s.content) p x → Reaches (changes_of s'.content) p x)
 
@@ -52,8 +50,8 @@ of_on w w' g p R R' x more h = record {
   beside = λ y c b. more y (h.beside y c b);
 }
 
-pub query_on : (w w' : Scene) → Grows w w' → (id : ReqId) (q : Query) → WasBegun w.past id → IsQueryOf w.chronicle id q → IsQueryOf w'.chronicle id q
-query_on w w' g id q begun h r l v there = h r l v (g.begins id r l v begun there)
+pub read_of_on : (w w' : Scene) → Grows w w' → (id : ReqId) (q : Query) (l : Level) → IsReadOf w.past id q l → IsReadOf w'.past id q l
+read_of_on w w' g id q l h = record { deed = h.deed; there = g.past h.deed h.there; at = h.at; columns = h.columns; asks = h.asks; level = h.level }
 
 pub stands_in : (es : List Entry) (id : ReqId) (e : Entry) → StandsBefore es id e → Contains es e
 stands_in [] id e h = absurd h
@@ -70,15 +68,24 @@ pub answers_on : (w w' : Scene) → Grows w w' → (q : Query) (content : List H
 answers_on w w' g q content h = record { of = λ x c. of_on w w' g q.partition _ _ x (λ y r. r) (h.of x c); inside = h.inside }
 
 pub reply_on : (c : Setting) (w w' : Scene) → Grows w w' → Explains c w → (j : ℕ) (id : ReqId) (content : List Held) → WasBegun w.past id → ReplyOk w j id content → ReplyOk w' j id content
-reply_on c w w' g e j id content begun h q l v there =
-    let old = h q l v (g.begins id q l v begun there) in
-    (answers_on w w' g q content old.0, sees_on c w w' g e id j q content begun old.1)
+reply_on c w w' g e j id content begun h = record {
+  query = h.query;
+  level = h.level;
+  asked = read_of_on w w' g id h.query h.level h.asked;
+  answers = answers_on w w' g h.query content h.answers;
+  sees = sees_on c w w' g e id j h.query content begun h.sees;
+}
+
+pub mend_on : (w w' : Scene) → Grows w w' → (m : Mutation) → MendOk w.chronicle m → MendOk w'.chronicle m
+mend_on w w' g m h x there = of_on w w' g m.partition _ _ x (λ y r. r) (h x there)
 
 body_is_on : (c : Setting) (w w' : Scene) → Grows w w' → Explains c w → (j : ℕ) (id : ReqId) (b : Body) → WasBegun w.past id → BodyIs w j id b → BodyIs w' j id b
 body_is_on c w w' g e j id (Write m) begun h = g.submissions id begun ∙ h
 body_is_on c w w' g e j id WriteAck begun h = has_all_on w w' g j id begun h
-body_is_on c w w' g e j id (Read q) begun h = query_on w w' g id q begun h
+body_is_on c w w' g e j id (Read q) begun h = (h.0, read_of_on w w' g id q h.0 h.1)
 body_is_on c w w' g e j id (ReadReply content) begun h = reply_on c w w' g e j id content begun h
+body_is_on c w w' g e j id (Mend m) begun h = mend_on w w' g m h
+body_is_on c w w' g e j id MendAck begun h = tt
 body_is_on c w w' g e j id (Hint number m) begun h = g.submissions id begun ∙ h
 body_is_on c w w' g e j id (HintAck number) begun h = tt
 
@@ -100,25 +107,24 @@ write_on w w' g k id o h = record {
 abbrev pub StaysLosing : Scene → Scene → ℕ → Type 0
 StaysLosing w w' k = w.losing ≡ Some k → w'.losing ≡ Some k
 
-pub read_on : (c : Setting) (w w' : Scene) → Grows w w' → Explains c w → (k : ℕ) → StaysLosing w w' k → (id : ReqId) (o : OpenRead) → ReadOk w k id o → ReadOk w' k id o
+-- a request that asks for rows was begun
+pub was_begun : (past : List Deed) (id : ReqId) (q : Query) (l : Level) → IsReadOf past id q l → WasBegun past id
+was_begun past id q l h = (h.deed, h.there, h.at)
+
+pub read_on : (c : Setting) (w w' : Scene) → Grows w w' → Explains c w → (k : ℕ) → StaysLosing w w' k → (id : ReqId) (o : OpenRead) → ReadOk c w k id o → ReadOk c w' k id o
 read_on c w w' g e k stays id o h = record {
-  begun = begun_on w w' g id h.begun;
   start = elim h.start [
     | inl there ↦ inl (there.0, there.1, there.2, g.chronicle _ there.3)
     | inr loses ↦ inr (stays loses)
   ];
-  is = λ q l v there.
-      let old = h.is q l v (g.begins id q l v h.begun there) in
-      record {
-        query = old.query;
-        level = old.level;
-        answers = answers_on w w' g q o.merged old.answers;
-        sees = λ j c. sees_on _ w w' g e id j q o.merged h.begun (old.sees j c);
-      };
+  asked = read_of_on w w' g id o.query o.level h.asked;
+  answers = answers_on w w' g o.query o.merged h.answers;
+  sees = λ j there. sees_on c w w' g e id j o.query o.merged (was_begun w.past id o.query o.level h.asked) (h.sees j there);
+  enough = h.enough;
 }
 
 -- a node whose content stays, or reaches more
-pub node_on : (c : Setting) (w w' : Scene) → Grows w w' → Explains c w → (k : ℕ) → StaysLosing w w' k → (s : NodeState) → NodeOk w k s → NodeOk w' k s
+pub node_on : (c : Setting) (w w' : Scene) → Grows w w' → Explains c w → (k : ℕ) → StaysLosing w w' k → (s : NodeState) → NodeOk c w k s → NodeOk c w' k s
 node_on c w w' g e k stays s h = record {
   of = λ p x c. of_on w w' g p _ _ x (λ y r. r) (h.of p x c);
   writes = λ id o c. write_on w w' g k id o (h.writes id o c);
@@ -136,7 +142,7 @@ acked_on c w w' g id l heard h = record {
 pub entry_on : (c : Setting) (w w' : Scene) → Grows w w' → (e : Entry) → EntryOk c w e → EntryOk c w' e
 entry_on c w w' g (Acked id l heard) h = acked_on c w w' g id l heard h
 entry_on c w w' g (Submitted id m) h = tt
-entry_on c w w' g (Began id q l v) h = begun_on w w' g id h
+entry_on c w w' g (Began id q l v) h = read_of_on w w' g id q l h
 entry_on c w w' g (Used r keyspace) h = tt
 entry_on c w w' g (Asked r) h = tt
 entry_on c w w' g (Refused r refusal) h = tt
@@ -193,12 +199,6 @@ start_kept past (Time k t) es id e new begun (inl h) = absurd h.0
 start_kept past (Turned k refusal) es id e new begun (inl h) = absurd h.0
 start_kept past (Tables k n) es id e new begun (inl h) = absurd h.0
 start_kept past (Stopped k) es id e new begun (inl h) = absurd h.0
-
-pub began_kept : (past : List Deed) (x : Entry) (es : List Entry) (id : ReqId) (q : Query) (l : Level) (v : Columns) → IsNew past x → WasBegun past id → Contains (x ∷ es) (Began id q l v) → Contains es (Began id q l v)
-began_kept past x es id q l v new begun h = elim (contains_cases x es (Began id q l v) h) [
-  | inl here ↦ absurd (subst (λ (e : Entry). IsNew past e) here new begun)
-  | inr rest ↦ rest
-]
 
 -- what was submitted last was submitted
 submission_cases : (b : Bool) (r id : ReqId) (m : Mutation) (o : Option Mutation) (n : Mutation) → is_request r id ≡ b → (if b then Some m else o) ≡ Some n → ((r ≡ id) × (m ≡ n)) ⊎ (o ≡ Some n)

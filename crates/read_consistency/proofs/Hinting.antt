@@ -13,10 +13,10 @@ use Rattle.peer_messages.specs.declared.outcome.Outbound.{Outbound}
 use Rattle.peer_messages.specs.declared.setting.Setting.{Setting}
 use Rattle.peer_messages.specs.Settings.{marked}
 use Rattle.node_steps.specs.State.{NodeState, OpenWrite, OpenRead}
-use Rattle.node_steps.specs.Effects.{Effects, nothing, open_at}
+use Rattle.node_steps.specs.Effects.{Effects, nothing, effects_of, open_at}
 use Rattle.node_steps.specs.Hints.{hints_in, drop_hint, send_hint, sends_hints, with_hints_of, with_sent, is_last, hint_done}
 use Rattle.node_steps.specs.Writes.{acks_of, write_needs, unheard}
-use Rattle.node_steps.specs.Reads.{replies_of, read_needs}
+use Rattle.node_steps.specs.Reads.{replies_of, read_needs, received_of, timeout_of}
 use Rattle.node_steps.specs.Acts.{Act, Marks, DeadlineComes, HintExpires, Does, HearsBody, Ends, EndsRead, mark_state, mark_sends, ends_write, ends_read}
 use Rattle.node_steps.proofs.HintMembers.{sent_from, dropped_from}
 use Rattle.node_steps.proofs.Opened.{open_in, in_left}
@@ -24,7 +24,7 @@ use Rattle.cs_base.proofs.Members.{contains_nil}
 use Rattle.cluster_runs.specs.Trace.{Scene}
 use Rattle.read_consistency.proofs.Facts.{BodyOk, HintOk, NodeOk, Explains}
 use Rattle.read_consistency.proofs.Grows.{Grows, hint_on}
-use Rattle.read_consistency.proofs.Cases.{next, only_sends, with_one, same_case, sends_case, one_entry, node_later, left_hints}
+use Rattle.read_consistency.proofs.Cases.{next, only_sends, same_case, sends_case, one_entry, node_later, left_hints}
 
 -- ---- hints go out
 
@@ -59,18 +59,18 @@ marks_case c w k lost peer up s s' o e at (is, same) =
 -- ---- a hint is acknowledged, or too old
 
 -- without it the node knows what it knew
-done_ok : (w : Scene) (k : ℕ) (s : NodeState) (peer number : ℕ) → NodeOk w k s → NodeOk w k (hint_done s peer number)
-done_ok w k s peer number old = record { of = old.of; writes = old.writes; reads = old.reads; hints = λ h there. old.hints h (dropped_from peer number (hints_in s) h there) }
+done_ok : (c : Setting) (w : Scene) (k : ℕ) (s : NodeState) (peer number : ℕ) → NodeOk c w k s → NodeOk c w k (hint_done s peer number)
+done_ok c w k s peer number old = record { of = old.of; writes = old.writes; reads = old.reads; hints = λ h there. old.hints h (dropped_from peer number (hints_in s) h there) }
 
 acked_case : (c : Setting) (w : Scene) (k : ℕ) (lost : Bool) (a : Act) (peer number : ℕ) (last : Bool) (s : NodeState) → Explains c w → slice_get w.nodes k ≡ Some s
     → Explains c (next w k lost a s (only_sends (if last then sends_hints c k (hint_done s peer number) peer else [])) (if last then with_sent c (hint_done s peer number) peer else hint_done s peer number))
 acked_case c w k lost a peer number true s e at =
     let done = hint_done s peer number in
     sends_case c w k lost a s (with_sent c done peer) (sends_hints c k done peer) e at refl
-    (λ w' g losing. let old = done_ok w' k s peer number (node_later c w k s e at w' g losing) in record { of = old.of; writes = old.writes; reads = old.reads; hints = old.hints })
-    (λ w' g. sent_bodies c w w' k done peer g (done_ok w k s peer number (e.nodes k s at)).hints)
+    (λ w' g losing. let old = done_ok c w' k s peer number (node_later c w k s e at w' g losing) in record { of = old.of; writes = old.writes; reads = old.reads; hints = old.hints })
+    (λ w' g. sent_bodies c w w' k done peer g (done_ok c w k s peer number (e.nodes k s at)).hints)
 acked_case c w k lost a peer number false s e at =
-    sends_case c w k lost a s (hint_done s peer number) [] e at refl (λ w' g losing. done_ok w' k s peer number (node_later c w k s e at w' g losing)) (λ w' g. none_sent w' k)
+    sends_case c w k lost a s (hint_done s peer number) [] e at refl (λ w' g losing. done_ok c w' k s peer number (node_later c w k s e at w' g losing)) (λ w' g. none_sent w' k)
 
 pub hint_acked_case : (c : Setting) (w : Scene) (k : ℕ) (lost : Bool) (from : ℕ) (id : ReqId) (number : ℕ) (s s' : NodeState) (o : Effects) → Explains c w → slice_get w.nodes k ≡ Some s → (a : Act)
     → HearsBody c k (record { from = from; request = id }) (body.HintAck number) s o s' → Explains c (next w k lost a s o s')
@@ -95,15 +95,15 @@ read_ends_case c w k lost a id None s s' o e at (is, same) =
     subst (λ (x : Effects). Explains c (next w k lost a s x s')) (sym is) (subst (λ (x : NodeState). Explains c (next w k lost a s nothing x)) (sym same) (same_case c w k lost a s s e at refl refl refl refl))
 read_ends_case c w k lost a id (Some r) s s' o e at (is, same) =
     subst (λ (x : Effects). Explains c (next w k lost a s x s')) (sym is)
-    (subst (λ (x : NodeState). Explains c (next w k lost a s (with_one [] (Refused id (ReadTimeout (replies_of c r) (read_needs c r) (nat_lt 0 (replies_of c r))))) x)) (sym same)
-    (one_entry c w k lost a s (ends_read id s) (Refused id (ReadTimeout (replies_of c r) (read_needs c r) (nat_lt 0 (replies_of c r)))) e at (λ p x h. h) tt
+    (subst (λ (x : NodeState). Explains c (next w k lost a s (effects_of (timeout_of c id r)) x)) (sym same)
+    (one_entry c w k lost a s (ends_read id s) (Refused id (ReadTimeout (received_of c r) (read_needs c r) (nat_lt 0 (replies_of c r)))) e at (λ p x h. h) tt
     (λ w' g losing.
     let old = node_later c w k s e at w' g losing in
     record { of = old.of; writes = old.writes; reads = λ i x there. old.reads i x (in_left (is_at (request_cmp id)) s.reads (i, x) there); hints = old.hints })
     tt tt))
 
 -- the node behind the end of a write
-write_left : (c : Setting) (w : Scene) (k : ℕ) (id : ReqId) (o : OpenWrite) (s : NodeState) → open_at s.writes id ≡ Some o → NodeOk w k s → NodeOk w k (ends_write c id o s)
+write_left : (c : Setting) (w : Scene) (k : ℕ) (id : ReqId) (o : OpenWrite) (s : NodeState) → open_at s.writes id ≡ Some o → NodeOk c w k s → NodeOk c w k (ends_write c id o s)
 write_left c w k id o s found old =
     let ok = old.writes id o (open_in s.writes id o found) in
     record {

@@ -17,7 +17,7 @@ use Rattle.cs_base.proofs.Slots.{get_set}
 use Rattle.cs_base.proofs.Members.{contains_nil, contains_cases, contains_there, contains_map, contains_from_map, contains_filter, contains_from_filter}
 use Rattle.read_consistency.specs.ReadRight.{IsRightEntry}
 use Rattle.read_consistency.proofs.Facts.{Reaches, BodyOk, NodeOk, EntryOk, Explains}
-use Rattle.read_consistency.proofs.Grows.{Grows, StaysLosing, of_on, body_on, hint_on, node_on, entry_on, IsNew, submission_kept, start_kept, began_kept}
+use Rattle.read_consistency.proofs.Grows.{Grows, StaysLosing, of_on, body_on, hint_on, node_on, entry_on, IsNew, submission_kept, start_kept}
 
 abbrev pub deed_of : ℕ → Act → NodeState → NodeState → Effects → Deed
 deed_of k a s s' o = record { node = k; act = a; before = s; after = s'; effects = o }
@@ -45,7 +45,6 @@ quietly_grows w k a s s' o at more = record {
   past = λ d h. contains_there _ w.past d h;
   chronicle = λ e h. h;
   submissions = λ id b. refl;
-  begins = λ id q l v b h. h;
   starts = λ id e b h. h;
   nodes = nodes_grow w.nodes k s s' at more;
 }
@@ -55,15 +54,14 @@ telling_grows w k a s s' sends e at more new = record {
   past = λ d h. contains_there _ w.past d h;
   chronicle = λ x h. contains_there e w.chronicle x h;
   submissions = λ id b. submission_kept w.past e w.chronicle id new b;
-  begins = λ id q l v b h. began_kept w.past e w.chronicle id q l v new b h;
   starts = λ id x b h. start_kept w.past e w.chronicle id x new b h;
   nodes = nodes_grow w.nodes k s s' at more;
 }
 
-nodes_ok : (c : Setting) (w w' : Scene) (k : ℕ) (s' : NodeState) → Grows w w' → Explains c w → ((j : ℕ) → j ≢ k → StaysLosing w w' j) → w'.nodes ≡ slice_set w.nodes k s' → NodeOk w' k s'
-    → (j : ℕ) (r : NodeState) → slice_get w'.nodes j ≡ Some r → NodeOk w' j r
+nodes_ok : (c : Setting) (w w' : Scene) (k : ℕ) (s' : NodeState) → Grows w w' → Explains c w → ((j : ℕ) → j ≢ k → StaysLosing w w' j) → w'.nodes ≡ slice_set w.nodes k s' → NodeOk c w' k s'
+    → (j : ℕ) (r : NodeState) → slice_get w'.nodes j ≡ Some r → NodeOk c w' j r
 nodes_ok c w w' k s' g e stays is new j r h = elim (get_set w.nodes k s' j r (subst (λ (ns : List NodeState). slice_get ns j ≡ Some r) is h)) [
-  | inl (here, same) ↦ subst (λ (i : ℕ). NodeOk w' i r) (sym here) (subst (λ (v : NodeState). NodeOk w' k v) (sym same) new)
+  | inl (here, same) ↦ subst (λ (i : ℕ). NodeOk c w' i r) (sym here) (subst (λ (v : NodeState). NodeOk c w' k v) (sym same) new)
   | inr (away, old) ↦ node_on c w w' g e j (stays j away) r (e.nodes j r old)
 ]
 
@@ -77,7 +75,7 @@ bodies_ok c w w' k d g e mine new b h x there = elim (contains_cases d w.past b 
 ]
 
 pub explains_quietly : (c : Setting) (w : Scene) (k : ℕ) (a : Act) (s s' : NodeState) (o : Effects) → Explains c w → slice_get w.nodes k ≡ Some s → Grown s s'
-    → NodeOk (quietly w k a s s' o) k s' → ((x : Outbound) → Contains o.sends x → BodyOk (quietly w k a s s' o) k x) → Explains c (quietly w k a s s' o)
+    → NodeOk c (quietly w k a s s' o) k s' → ((x : Outbound) → Contains o.sends x → BodyOk (quietly w k a s s' o) k x) → Explains c (quietly w k a s s' o)
 explains_quietly c w k a s s' o e at more node bodies =
     let w' = quietly w k a s s' o in
     let g = quietly_grows w k a s s' o at more in
@@ -89,7 +87,7 @@ explains_quietly c w k a s s' o e at more node bodies =
     }
 
 pub explains_telling : (c : Setting) (w : Scene) (k : ℕ) (a : Act) (s s' : NodeState) (sends : List Outbound) (x : Entry) → Explains c w → slice_get w.nodes k ≡ Some s → Grown s s' → IsNew w.past x
-    → NodeOk (telling w k a s s' sends x) k s' → ((b : Outbound) → Contains sends b → BodyOk (telling w k a s s' sends x) k b) → EntryOk c (telling w k a s s' sends x) x → IsRightEntry c w.chronicle x
+    → NodeOk c (telling w k a s s' sends x) k s' → ((b : Outbound) → Contains sends b → BodyOk (telling w k a s s' sends x) k b) → EntryOk c (telling w k a s s' sends x) x → IsRightEntry c w.chronicle x
     → Explains c (telling w k a s s' sends x)
 explains_telling c w k a s s' sends x e at more new node bodies entry right =
     let w' = telling w k a s s' sends x in
@@ -113,7 +111,6 @@ entry_grows w e new = record {
   past = λ d h. h;
   chronicle = λ x h. contains_there e w.chronicle x h;
   submissions = λ id b. submission_kept w.past e w.chronicle id new b;
-  begins = λ id q l v b h. began_kept w.past e w.chronicle id q l v new b h;
   starts = λ id x b h. start_kept w.past e w.chronicle id x new b h;
   nodes = λ j s h. (s, h, λ p x r. r);
 }
@@ -142,7 +139,6 @@ waking_grows w k = record {
   past = λ d h. h;
   chronicle = λ x h. h;
   submissions = λ id b. refl;
-  begins = λ id q l v b h. h;
   starts = λ id x b h. h;
   nodes = λ j s h. (s, h, λ p x r. r);
 }
@@ -180,7 +176,6 @@ forgetting_grows w k s found at same = record {
   past = λ d h. h;
   chronicle = λ x h. h;
   submissions = λ id b. refl;
-  begins = λ id q l v b h. h;
   starts = λ id x b h. h;
   nodes = nodes_grow w.nodes k s (loaded found) at (reached_both (durable_of s) found same);
 }

@@ -142,6 +142,13 @@ column_at bytes = do
   ty ← type_of_id id.0
   Ok (record { name = name.0; ty = ty }, id.1)
 
+-- a table's name, and so many columns
+abbrev pub named_columns_at : ℕ → List ℕ → Read (List ℕ × List Column)
+named_columns_at count bytes = do
+  table ← string_at bytes
+  columns ← items_at column_at count table.1
+  Ok ((table.0, columns.0), columns.1)
+
 -- a table's names, and so many columns
 unfoldable pub table_at : ℕ → List ℕ → Read TableColumns
 table_at count bytes = do
@@ -187,6 +194,13 @@ metadata_at bytes = do
 abbrev pub one_table : ℤ → Result (Unit {0}) Fault
 one_table flags = if int_lt flags (pos 0) then Err BadFlag else (if unsigned_abs flags == 1 then Ok tt else Err BadFlag)
 
+-- which markers give the key, and the markers
+abbrev pub variables_behind : ℕ → ℕ → List ℕ → Read VariablesMetadata
+variables_behind count key_count bytes = do
+  key_indexes ← items_at short_at key_count bytes
+  variables ← table_at count key_indexes.1
+  Ok (record { variables = variables.0; key_indexes = key_indexes.0 }, variables.1)
+
 unfoldable pub variables_at : List ℕ → Read VariablesMetadata
 variables_at bytes = do
   flags ← int_at bytes
@@ -197,6 +211,13 @@ variables_at bytes = do
   variables ← table_at count.0 key_indexes.1
   Ok (record { variables = variables.0; key_indexes = key_indexes.0 }, variables.1)
 
+-- what stands behind the id of a prepared statement
+abbrev pub described_at : List ℕ → Read (VariablesMetadata × RowsMetadata)
+described_at bytes = do
+  variables ← variables_at bytes
+  result ← metadata_at variables.1
+  Ok ((variables.0, result.0), result.1)
+
 unfoldable pub prepared_at : List ℕ → Read Prepared
 prepared_at bytes = do
   id ← short_bytes_at bytes
@@ -205,6 +226,13 @@ prepared_at bytes = do
   Ok (record { id = id.0; variables = variables.0; result = result.0 }, result.1)
 
 -- ---- rows
+
+-- how many rows there are, and so many cells of each
+abbrev pub cells_at : ℕ → List ℕ → Read (ℕ × List (Option (List ℕ)))
+cells_at width bytes = do
+  count ← count_at bytes
+  cells ← items_at bytes_at (count.0 * width) count.1
+  Ok ((count.0, cells.0), cells.1)
 
 unfoldable pub rows_at : List ℕ → Read Rows
 rows_at bytes = do

@@ -2,7 +2,7 @@
 
 ghost use Rattle.std.specs.Prelude.{◌≡◌, ◌++◌, ◌↔◌, IsTrue, OnOk};
 ghost use Rattle.body_notations.specs.Reading.{Gives};
-ghost use Rattle.response_bodies.specs.Reading.{columns_at, front_at, metadata_at, metadata_behind, metadata_flags, one_table, prepared_at, table_at, type_of_id, variables_at};
+ghost use Rattle.response_bodies.specs.Reading.{columns_at, described_at, front_at, metadata_at, metadata_behind, metadata_flags, named_columns_at, one_table, prepared_at, table_at, type_of_id, variables_at, variables_behind};
 ghost use Rattle.response_bodies.specs.Spelling.{columns as columns_bytes, column_count, flags_of, metadata, prepared, table, type_id, variables, ColumnsFit, MetadataFits, PreparedFits, TableFits, VariablesFit};
 
 use body_notations::{
@@ -127,14 +127,26 @@ impl Notation for Column {
     }
 }
 
+/// A table's name, and so many columns.
+fn read_named_columns(
+    alloc: Global,
+    count: u32,
+    bytes: &[u8],
+) -> Result<((Text, Items<Column>), &[u8]), Fault>
+    ensures { Gives (λ x. (x.0, x.1.now)) result (named_columns_at count bytes.now) }
+{
+    let (table, rest) = read_string(alloc, bytes)?;
+    let (columns, rest) = read_items(alloc, count as usize, rest)?;
+    Ok(((table, columns), rest))
+}
+
 /// A table's names, and so many columns.
 #[tactic(auto, unfolding(crate::specs::Reading::table_at))]
 fn read_table(alloc: Global, count: u32, bytes: &[u8]) -> Result<(TableColumns, &[u8]), Fault>
     ensures { Gives (λ x. (x.0, x.1.now)) result (table_at count bytes.now) }
 {
     let (keyspace, rest) = read_string(alloc, bytes)?;
-    let (table, rest) = read_string(alloc, rest)?;
-    let (columns, rest) = read_items(alloc, count as usize, rest)?;
+    let ((table, columns), rest) = read_named_columns(alloc, count, rest)?;
     let described = TableColumns {
         keyspace,
         table,
@@ -284,6 +296,24 @@ fn one_table(flags: i32) -> Result<(), Fault>
     Ok(())
 }
 
+/// Which markers give the key, and the markers.
+fn read_variables_behind(
+    alloc: Global,
+    count: u32,
+    key_count: u32,
+    bytes: &[u8],
+) -> Result<(VariablesMetadata, &[u8]), Fault>
+    ensures { Gives (λ x. (x.0, x.1.now)) result (variables_behind count key_count bytes.now) }
+{
+    let (key_indexes, rest) = read_items(alloc, key_count as usize, bytes)?;
+    let (variables, rest) = read_table(alloc, count, rest)?;
+    let metadata = VariablesMetadata {
+        variables,
+        key_indexes,
+    };
+    Ok((metadata, rest))
+}
+
 #[tactic(auto, unfolding(crate::specs::Reading::variables_at))]
 fn read_variables(alloc: Global, bytes: &[u8]) -> Result<(VariablesMetadata, &[u8]), Fault>
     ensures { Gives (λ x. (x.0, x.1.now)) result (variables_at bytes.now) }
@@ -292,13 +322,7 @@ fn read_variables(alloc: Global, bytes: &[u8]) -> Result<(VariablesMetadata, &[u
     one_table(flags)?;
     let (count, rest) = read_count(rest)?;
     let (key_count, rest) = read_count(rest)?;
-    let (key_indexes, rest) = read_items(alloc, key_count as usize, rest)?;
-    let (variables, rest) = read_table(alloc, count, rest)?;
-    let metadata = VariablesMetadata {
-        variables,
-        key_indexes,
-    };
-    Ok((metadata, rest))
+    read_variables_behind(alloc, count, key_count, rest)
 }
 
 fn write_variables(out: &mut Vec<u8>, written: &VariablesMetadata) -> Result<(), AllocError>
@@ -312,13 +336,24 @@ fn write_variables(out: &mut Vec<u8>, written: &VariablesMetadata) -> Result<(),
     write_table(out, &written.variables)
 }
 
+/// What stands behind the id of a prepared statement.
+fn read_described(
+    alloc: Global,
+    bytes: &[u8],
+) -> Result<((VariablesMetadata, RowsMetadata), &[u8]), Fault>
+    ensures { Gives (λ x. (x.0, x.1.now)) result (described_at bytes.now) }
+{
+    let (variables, rest) = read_variables(alloc, bytes)?;
+    let (result, rest) = read_metadata(alloc, rest)?;
+    Ok(((variables, result), rest))
+}
+
 #[tactic(auto, unfolding(crate::specs::Reading::prepared_at))]
 pub(crate) fn read_prepared(alloc: Global, bytes: &[u8]) -> Result<(Prepared, &[u8]), Fault>
     ensures { Gives (λ x. (x.0, x.1.now)) result (prepared_at bytes.now) }
 {
     let (id, rest) = read_short_bytes(alloc, bytes)?;
-    let (variables, rest) = read_variables(alloc, rest)?;
-    let (result, rest) = read_metadata(alloc, rest)?;
+    let ((variables, result), rest) = read_described(alloc, rest)?;
     let prepared = Prepared {
         id,
         variables,

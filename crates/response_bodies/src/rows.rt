@@ -2,7 +2,7 @@
 
 ghost use Rattle.std.specs.Prelude.{◌≡◌, ◌++◌, ◌*◌, ◌↔◌, IsTrue, OnOk};
 ghost use Rattle.body_notations.specs.Reading.{Gives};
-ghost use Rattle.response_bodies.specs.Reading.{rows_at};
+ghost use Rattle.response_bodies.specs.Reading.{cells_at, rows_at};
 ghost use Rattle.response_bodies.specs.Spelling.{rows, RowsFit};
 
 use crate::cells::write_cells;
@@ -12,6 +12,8 @@ use crate::metadata::{
 use body_notations::{Fault, INT_LIMIT, all_have_word, read_count, read_items, write_count};
 use cs_base::{Bytes, Items};
 use std::alloc::{AllocError, Global};
+
+type Cells = Items<Option<Bytes>>;
 
 /// The rows of a read, or of a refused condition.
 #[derive(Debug, Drop)]
@@ -23,15 +25,23 @@ pub struct Rows {
     pub cells: Items<Option<Bytes>>,
 }
 
+/// How many rows there are, and so many cells of each.
+fn read_cells(alloc: Global, width: u32, bytes: &[u8]) -> Result<((u32, Cells), &[u8]), Fault>
+    ensures { Gives (λ x. (x.0, x.1.now)) result (cells_at width bytes.now) }
+{
+    let (row_count, rest) = read_count(bytes)?;
+    let cell_count = u64::from(row_count) * u64::from(width);
+    let (cells, rest) = read_items(alloc, cell_count as usize, rest)?;
+    Ok(((row_count, cells), rest))
+}
+
 #[tactic(auto, unfolding(crate::specs::Reading::rows_at))]
 pub(crate) fn read_rows(alloc: Global, bytes: &[u8]) -> Result<(Rows, &[u8]), Fault>
     ensures { Gives (λ x. (x.0, x.1.now)) result (rows_at bytes.now) }
 {
     let (front, rest) = read_front(bytes)?;
     let (metadata, rest) = read_metadata_behind(alloc, front, rest)?;
-    let (row_count, rest) = read_count(rest)?;
-    let cell_count = u64::from(row_count) * u64::from(front.column_count);
-    let (cells, rest) = read_items(alloc, cell_count as usize, rest)?;
+    let ((row_count, cells), rest) = read_cells(alloc, front.column_count, rest)?;
     let rows = Rows {
         metadata,
         row_count,

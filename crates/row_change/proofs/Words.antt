@@ -37,7 +37,7 @@ stamped_word bytes x e =
     let f = bind_ok (changes_at d.0.1) (λ changes.
     Ok (record { ballot = a.0.0; update = record { request = b.0.0; base = d.0.0; changes = changes.0 } }, changes.1)) x d.2 in
     let made : Stamped × List ℕ = (record { ballot = a.0.0; update = record { request = b.0.0; base = d.0.0; changes = f.0.0 } }, f.0.1) in
-    subst (λ (q : Stamped × List ℕ). IsStamped bytes q.0 q.1) (ok_is made x f.2)
+    subst (λ (q : Stamped × List ℕ). IsStamped bytes q.0 q.1) {x = made} (ok_is made x f.2)
     (record {
       behind_ballot = a.0.1;
       behind_request = b.0.1;
@@ -82,9 +82,9 @@ seven_word bytes x e =
     let g = bind_ok (u64_at f.0.1) (λ g.
     Ok (a.0.0 ∷ b.0.0 ∷ c.0.0 ∷ d.0.0 ∷ h.0.0 ∷ f.0.0 ∷ g.0 ∷ [], g.1)) x f.2 in
     let made : List ℕ × List ℕ = (a.0.0 ∷ b.0.0 ∷ c.0.0 ∷ d.0.0 ∷ h.0.0 ∷ f.0.0 ∷ g.0.0 ∷ [], g.0.1) in
-    subst (λ (q : List ℕ × List ℕ). AreSeven bytes q.0 q.1) (ok_is made x g.2)
+    subst (λ (q : List ℕ × List ℕ). AreSeven bytes q.0 q.1) {x = made} (ok_is made x g.2)
     (record {
-      count = refl;
+      count = refl {a = 7};
       numbers = (
         a.0.1,
         u64_agrees.is_word bytes a.0 a.1,
@@ -97,7 +97,7 @@ seven_word bytes x e =
             (
               d.0.1,
               u64_agrees.is_word c.0.1 d.0 d.1,
-              (h.0.1, u64_agrees.is_word d.0.1 h.0 h.1, (f.0.1, u64_agrees.is_word h.0.1 f.0 f.1, (g.0.1, u64_agrees.is_word f.0.1 g.0 g.1, refl))),
+              (h.0.1, u64_agrees.is_word d.0.1 h.0 h.1, (f.0.1, u64_agrees.is_word h.0.1 f.0 f.1, (g.0.1, u64_agrees.is_word f.0.1 g.0 g.1, refl {a = g.0.1}))),
             ),
           ),
         ),
@@ -152,7 +152,7 @@ row_word bytes x e =
     let f = bind_ok (optional_at stamped_at d.0.1) (λ commit.
     Ok (record { promised = a.0.0; took = b.0.0; accepted = d.0.0; commit = commit.0 }, commit.1)) x d.2 in
     let made : PaxosRow × List ℕ = (record { promised = a.0.0; took = b.0.0; accepted = d.0.0; commit = f.0.0 }, f.0.1) in
-    subst (λ (q : PaxosRow × List ℕ). IsPaxosRow bytes q.0 q.1) (ok_is made x f.2)
+    subst (λ (q : PaxosRow × List ℕ). IsPaxosRow bytes q.0 q.1) {x = made} (ok_is made x f.2)
     (record {
       behind_promised = a.0.1;
       behind_took = b.0.1;
@@ -190,7 +190,7 @@ hint_word bytes x e =
     let f = bind_ok (mutation_at d.0.1) (λ mutation.
     Ok (record { peer = a.0.0; number = b.0.0; born = d.0.0; mutation = mutation.0 }, mutation.1)) x d.2 in
     let made : Hint × List ℕ = (record { peer = a.0.0; number = b.0.0; born = d.0.0; mutation = f.0.0 }, f.0.1) in
-    subst (λ (q : Hint × List ℕ). IsHint bytes q.0 q.1) (ok_is made x f.2)
+    subst (λ (q : Hint × List ℕ). IsHint bytes q.0 q.1) {x = made} (ok_is made x f.2)
     (record {
       behind_peer = a.0.1;
       behind_number = b.0.1;
@@ -223,7 +223,7 @@ mark_word bytes x e =
     let f = bind_ok (u64_at d.0.1) (λ sent.
     Ok (record { range = record { after = a.0.0; upto = b.0.0 }; snapshot = d.0.0; sent = sent.0 }, sent.1)) x d.2 in
     let made : mark.Mark × List ℕ = (record { range = record { after = a.0.0; upto = b.0.0 }; snapshot = d.0.0; sent = f.0.0 }, f.0.1) in
-    subst (λ (q : mark.Mark × List ℕ). IsMark bytes q.0 q.1) (ok_is made x f.2)
+    subst (λ (q : mark.Mark × List ℕ). IsMark bytes q.0 q.1) {x = made} (ok_is made x f.2)
     (record {
       behind_after = a.0.1;
       behind_upto = b.0.1;
@@ -256,7 +256,7 @@ data_word bytes x e =
     let a = bind_ok (u64_at bytes) (λ arrival. mutation_at arrival.1 >>= λ mutation. Ok (Data arrival.0 mutation.0, mutation.1)) x e in
     let b = bind_ok (mutation_at a.0.1) (λ mutation. Ok (Data a.0.0 mutation.0, mutation.1)) x a.2 in
     let made : LogItem × List ℕ = (Data a.0.0 b.0.0, b.0.1) in
-    subst (IsKind 1 bytes) (ok_is made x b.2) (refl, (a.0.1, u64_agrees.is_word bytes a.0 a.1, mutation_agrees.is_word a.0.1 b.0 b.1))
+    subst (IsKind 1 bytes) {x = made} (ok_is made x b.2) (refl, (a.0.1, u64_agrees.is_word bytes a.0 a.1, mutation_agrees.is_word a.0.1 b.0 b.1))
 
 paxos_word : (bytes : List ℕ) (x : LogItem × List ℕ) → paxos_item_at bytes ≡ Ok x → IsKind 2 bytes x
 unfolding paxos_item_at
@@ -264,13 +264,13 @@ paxos_word bytes x e =
     let a = bind_ok (partition_at bytes) (λ partition. row_at partition.1 >>= λ row. Ok (Paxos partition.0 row.0, row.1)) x e in
     let b = bind_ok (row_at a.0.1) (λ row. Ok (Paxos a.0.0 row.0, row.1)) x a.2 in
     let made : LogItem × List ℕ = (Paxos a.0.0 b.0.0, b.0.1) in
-    subst (IsKind 2 bytes) (ok_is made x b.2) (refl, (a.0.1, partition_agrees.is_word bytes a.0 a.1, row_word a.0.1 b.0 b.1))
+    subst (IsKind 2 bytes) {x = made} (ok_is made x b.2) (refl, (a.0.1, partition_agrees.is_word bytes a.0 a.1, row_word a.0.1 b.0 b.1))
 
 hint_item_word : (bytes : List ℕ) (x : LogItem × List ℕ) → hint_item_at bytes ≡ Ok x → IsKind 3 bytes x
 hint_item_word bytes x e =
     let a = bind_ok (hint_at bytes) (λ hint. Ok (HintAdd hint.0, hint.1)) x e in
     let made : LogItem × List ℕ = (HintAdd a.0.0, a.0.1) in
-    subst (IsKind 3 bytes) (ok_is made x a.2) (refl, hint_word bytes a.0 a.1)
+    subst (IsKind 3 bytes) {x = made} (ok_is made x a.2) (refl, hint_word bytes a.0 a.1)
 
 gone_word : (bytes : List ℕ) (x : LogItem × List ℕ) → gone_item_at bytes ≡ Ok x → IsKind 4 bytes x
 unfolding gone_item_at
@@ -278,19 +278,19 @@ gone_word bytes x e =
     let a = bind_ok (node_at bytes) (λ peer. u64_at peer.1 >>= λ number. Ok (HintGone peer.0 number.0, number.1)) x e in
     let b = bind_ok (u64_at a.0.1) (λ number. Ok (HintGone a.0.0 number.0, number.1)) x a.2 in
     let made : LogItem × List ℕ = (HintGone a.0.0 b.0.0, b.0.1) in
-    subst (IsKind 4 bytes) (ok_is made x b.2) (refl, (a.0.1, node_agrees.is_word bytes a.0 a.1, u64_agrees.is_word a.0.1 b.0 b.1))
+    subst (IsKind 4 bytes) {x = made} (ok_is made x b.2) (refl, (a.0.1, node_agrees.is_word bytes a.0 a.1, u64_agrees.is_word a.0.1 b.0 b.1))
 
 ceiling_word : (bytes : List ℕ) (x : LogItem × List ℕ) → ceiling_item_at bytes ≡ Ok x → IsKind 5 bytes x
 ceiling_word bytes x e =
     let a = bind_ok (u64_at bytes) (λ time. Ok (Ceiling time.0, time.1)) x e in
     let made : LogItem × List ℕ = (Ceiling a.0.0, a.0.1) in
-    subst (IsKind 5 bytes) (ok_is made x a.2) (refl, u64_agrees.is_word bytes a.0 a.1)
+    subst (IsKind 5 bytes) {x = made} (ok_is made x a.2) (refl, u64_agrees.is_word bytes a.0 a.1)
 
 mark_item_word : (bytes : List ℕ) (x : LogItem × List ℕ) → mark_item_at bytes ≡ Ok x → IsKind 6 bytes x
 mark_item_word bytes x e =
     let a = bind_ok (mark_at bytes) (λ m. Ok (Mark m.0, m.1)) x e in
     let made : LogItem × List ℕ = (Mark a.0.0, a.0.1) in
-    subst (IsKind 6 bytes) (ok_is made x a.2) (refl, mark_word bytes a.0 a.1)
+    subst (IsKind 6 bytes) {x = made} (ok_is made x a.2) (refl, mark_word bytes a.0 a.1)
 
 purge_word : (bytes : List ℕ) (x : LogItem × List ℕ) → purge_item_at bytes ≡ Ok x → IsKind 7 bytes x
 unfolding purge_item_at
@@ -298,7 +298,7 @@ purge_word bytes x e =
     let a = bind_ok (partition_at bytes) (λ partition. change_at None partition.1 >>= λ held. Ok (Purge (record { partition = partition.0; held = held.0 }), held.1)) x e in
     let b = bind_ok (change_at None a.0.1) (λ held. Ok (Purge (record { partition = a.0.0; held = held.0 }), held.1)) x a.2 in
     let made : LogItem × List ℕ = (Purge (record { partition = a.0.0; held = b.0.0 }), b.0.1) in
-    subst (IsKind 7 bytes) (ok_is made x b.2) (refl, (a.0.1, partition_agrees.is_word bytes a.0 a.1, change_agrees.is_word a.0.1 b.0 b.1))
+    subst (IsKind 7 bytes) {x = made} (ok_is made x b.2) (refl, (a.0.1, partition_agrees.is_word bytes a.0 a.1, change_agrees.is_word a.0.1 b.0 b.1))
 
 -- one test of the kind
 tested : (bytes : List ℕ) (x : LogItem × List ℕ) (kind k : ℕ) (read others : Read LogItem) → (read ≡ Ok x → IsKind k bytes x) → (others ≡ Ok x → IsKind kind bytes x)
@@ -383,7 +383,7 @@ entry_word bytes x e =
     let b = bind_ok (counted_items_at a.0.0 a.0.1) (λ items. Ok (record { items = items.0 }, items.1)) x a.2 in
     let p = items_words item_at kind_of IsItem Follows item_agrees_behind a.0.0 0 a.0.1 b.0 b.1 in
     let made : LogEntry × List ℕ = (record { items = b.0.0 }, b.0.1) in
-    subst (λ (q : LogEntry × List ℕ). IsEntry bytes q.0 q.1) (ok_is made x b.2)
+    subst (λ (q : LogEntry × List ℕ). IsEntry bytes q.0 q.1) {x = made} (ok_is made x b.2)
     (record {
       behind_count = a.0.1;
       count = subst (λ (n : ℕ). IsU32 bytes n a.0.1) p.1 (u32_agrees.is_word bytes a.0 a.1);

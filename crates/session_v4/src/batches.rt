@@ -150,8 +150,16 @@ fn read_entry(session: &Session, text: &Text) -> Result<Entry, AllocError>
 {
     let read = parse(session.alloc, text.as_str());
     match &read {
-        Ok(statement) => stated(session, statement),
-        Err(error) => misread(session, text.as_str(), *error),
+        Ok(statement) => {
+            let entry = stated(session, statement);
+            drop(read);
+            entry
+        }
+        Err(error) => {
+            let error = *error;
+            drop(read);
+            misread(session, text.as_str(), error)
+        }
     }
 }
 

@@ -238,15 +238,29 @@ fn on_terms(
     }
 }
 
+/// The terms, if they and the plan are taken.
+fn taken(alloc: Global, terms: &Terms, plan: &Plan) -> Result<Result<Admitted, Reason>, AllocError>
+    ensures { IfOk result (λ taken. planned terms.now taken plan.now ≡ outcome_of terms.now (Ok plan.now)) }
+{
+    match plan_fault(plan) {
+        Some(fault) => Ok(Err(Reason::Invalid(Invalid::Statement(fault)))),
+        None => admission(alloc, terms),
+    }
+}
+
 fn plan_outcome(alloc: Global, terms: &Terms, plan: Plan) -> Result<Outcome, AllocError>
     ensures { IfOk result (λ o. o ≡ outcome_of terms.now (Ok plan)) }
 {
-    if let Some(fault) = plan_fault(&plan) {
-        return Ok(Outcome::Refused(Reason::Invalid(Invalid::Statement(fault))));
-    }
-    match admission(alloc, terms)? {
-        Ok(admitted) => on_terms(alloc, terms, admitted, plan),
-        Err(reason) => Ok(Outcome::Refused(reason)),
+    match taken(alloc, terms, &plan) {
+        Ok(Ok(admitted)) => on_terms(alloc, terms, admitted, plan),
+        Ok(Err(reason)) => {
+            drop(plan);
+            Ok(Outcome::Refused(reason))
+        }
+        Err(error) => {
+            drop(plan);
+            Err(error)
+        }
     }
 }
 

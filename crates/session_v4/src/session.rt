@@ -1,10 +1,12 @@
 //! Connections.
 
-ghost use Rattle.std.specs.Prelude.{◌≡◌, ◌≢◌, ◌↔◌, IsTrue, IfErr, IfOk, OnErr, Some, None, Ok, IsSome, pos, option_copied};
+ghost use Rattle.std.specs.Prelude.{◌≡◌, ◌≢◌, ◌↔◌, IsTrue, IfErr, IfOk, OnErr, OnOk, Some, None, Ok, IsSome, pos, option_copied};
 ghost use Rattle.cql_parser.specs.declared.error.ParseError.TheVariants as parsing;
 ghost use Rattle.prepared_statement.specs.Prepared.{outline_of};
+ghost use Rattle.session_v4.specs.Kept.{id_of as id_of_text};
 ghost use Rattle.session_v4.specs.Outcomes.{named_state as named_state_of};
-ghost use Rattle.session_v4.specs.Sessions.{fresh, kept_as, state_in, used_by as used_by_name, AwaitsFor, FoundAs, IsAnswered, IsBatchDue, IsChangesDue, IsClosed, IsDue, IsExecuteDue, IsKeptDue, IsPrepareDue, IsQueryDue, IsReadDue, IsReadPrepared, IsRequestDue, IsStartupDue, IsStatementDue, IsTakenDue, StatementComesTo, Takes, ToldAs, Waits};
+ghost use Rattle.session_v4.specs.declared.act.Act.TheVariants as acts;
+ghost use Rattle.session_v4.specs.Sessions.{fresh, kept_as, state_in, used_by as used_by_name, AwaitsFor, FoundAs, IsAnswered, IsBatchDue, IsChangesDue, IsClosed, IsDue, IsExecuteDue, IsKeptDue, IsPrepareDue, IsQueryDue, IsReadDue, IsReadPrepared, IsRequestDue, IsStartupDue, IsStatementDue, IsTakenDue, Keeps, prepared_response, StatementComesTo, Takes, ToldAs, Waits};
 ghost use Rattle.frame_v4.specs.declared.error.FrameError.TheVariants as framing;
 
 use crate::act::{Act, misread, unfit};
@@ -105,6 +107,12 @@ fn statement_outcome(
     filled_outcome(alloc, &terms, prepared, Values::Whole(&params), timestamp)
 }
 
+fn copied_id(alloc: Global, execute: &Execute) -> Result<Bytes, AllocError>
+    ensures { IfOk result (λ id. id ≡ execute.now.id) }
+{
+    execute.id.copy(alloc)
+}
+
 impl<'a> Session<'a> {
     /// A connection whose client said nothing yet.
     pub fn new(alloc: Global, schema: &'a Schema) -> Session<'a>
@@ -180,8 +188,9 @@ impl<'a> Session<'a> {
         ensures no_memory { OnErr result (state_in self.new ≡ state_in self.old) }
     {
         let prepared = outline(self.alloc, self.schema, self.used(), statement)?;
-        let outcome = statement_outcome(self.alloc, &prepared, parameters)?;
-        self.come_to(stream, outcome)
+        let outcome = statement_outcome(self.alloc, &prepared, parameters);
+        drop(prepared);
+        self.come_to(stream, outcome?)
     }
 
     /// QUERY, as its text was read.
@@ -208,7 +217,9 @@ impl<'a> Session<'a> {
     {
         let Query { query, parameters } = query;
         let read = parse(self.alloc, query.as_str());
-        self.query_read(stream, query.as_str(), &read, parameters)
+        let act = self.query_read(stream, query.as_str(), &read, parameters);
+        drop(read);
+        act
     }
 
     /// What a prepared statement comes to, or None where there is none of this id.
@@ -229,7 +240,7 @@ impl<'a> Session<'a> {
         ensures due { IfOk result (λ act. IsExecuteDue (state_in self.old) stream execute act (state_in self.new)) }
         ensures no_memory { OnErr result (state_in self.new ≡ state_in self.old) }
     {
-        let id = execute.id.copy(self.alloc)?;
+        let id = copied_id(self.alloc, &execute)?;
         match self.found(execute)? {
             Some(outcome) => self.come_to(stream, outcome),
             None => {
@@ -239,17 +250,38 @@ impl<'a> Session<'a> {
         }
     }
 
+    /// The id of a text's statement, and what a client is told of it.
+    fn described(&self, text: &str, prepared: &Prepared) -> Result<(Bytes, Response), AllocError>
+        ensures id { IfOk result (λ x. x.0 ≡ id_of_text (state_in self.now).used text.now) }
+        ensures response { IfOk result (λ x. x.1 ≡ prepared_response (state_in self.now) (kept_as (state_in self.now) text.now prepared.now)) }
+    {
+        let id = id_of(self.alloc, self.used(), text)?;
+        let told = told_of(self.alloc, self.schema, &id, prepared)?;
+        Ok((id, Response::Prepared(told)))
+    }
+
+    /// Keeps a statement where this answer has a word.
+    fn keep(&mut self, statement: KeptStatement, response: Response) -> Result<Act, AllocError>
+        ensures act { IfOk result (λ act. act ≡ acts.Reply response) }
+        ensures kept { OnOk result (Keeps (state_in self.old) statement response (state_in self.new)) }
+        ensures no_memory { OnErr result (state_in self.new ≡ state_in self.old) }
+    {
+        let has_word = has_word(&response);
+        keep_if(&mut self.kept, has_word, statement).and(Ok(Act::Reply(response)))
+    }
+
     /// Keeps a statement where the answer has a word.
     fn keep_prepared(&mut self, text: &str, prepared: Prepared) -> Result<Act, AllocError>
         ensures due { IfOk result (λ act. IsKeptDue (state_in self.old) (kept_as (state_in self.old) text.now prepared) act (state_in self.new)) }
         ensures no_memory { OnErr result (state_in self.new ≡ state_in self.old) }
     {
-        let id = id_of(self.alloc, self.used(), text)?;
-        let told = told_of(self.alloc, self.schema, &id, &prepared)?;
-        let response = Response::Prepared(told);
-        let has_word = has_word(&response);
-        keep_if(&mut self.kept, has_word, KeptStatement { id, prepared })?;
-        Ok(Act::Reply(response))
+        match self.described(text, &prepared) {
+            Ok((id, response)) => self.keep(KeptStatement { id, prepared }, response),
+            Err(error) => {
+                drop(prepared);
+                Err(error)
+            }
+        }
     }
 
     /// PREPARE of this statement.
@@ -285,7 +317,9 @@ impl<'a> Session<'a> {
         ensures no_memory { OnErr result (state_in self.new ≡ state_in self.old) }
     {
         let read = parse(self.alloc, text);
-        self.prepare_read(text, &read)
+        let act = self.prepare_read(text, &read);
+        drop(read);
+        act
     }
 
     /// BATCH of these changes.
@@ -299,8 +333,9 @@ impl<'a> Session<'a> {
         let slots = Items::new(self.alloc);
         let prepared = Prepared::Batch(prepared_statement::Batch { slots, changes });
         let values = Values::Each(lists.as_slice());
-        let outcome = filled_outcome(self.alloc, &terms, &prepared, values, timestamp)?;
-        self.come_to(stream, outcome)
+        let outcome = filled_outcome(self.alloc, &terms, &prepared, values, timestamp);
+        drop(prepared);
+        self.come_to(stream, outcome?)
     }
 
     fn batch(&mut self, stream: i16, batch: Batch) -> Result<Act, AllocError>
@@ -335,6 +370,7 @@ impl<'a> Session<'a> {
         ensures no_memory { OnErr result (state_in self.new ≡ state_in self.old) }
     {
         if needs_startup(&request) && !self.started {
+            drop(request);
             return Ok(Act::Reply(protocol(self.alloc, "startup first")?));
         }
         self.serve(stream, request)

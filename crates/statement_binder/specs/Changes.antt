@@ -1,12 +1,12 @@
 -- The changes that a statement makes in the rows that it names (CQL reference: INSERT makes a row, UPDATE and INSERT
 -- write cells, null deletes a cell, and DELETE deletes cells, a row, a range of rows or a partition).
-use Rattle.std.specs.Prelude.{ℕ, ℤ, ◌||◌, not, nat_lt, Bool, false, List, [], ◌∷◌, Option, Some, None, if◌then◌else◌, length, flat_map, map}
+use Rattle.std.specs.Prelude.{ℕ, ℤ, ◌||◌, not, nat_lt, Bool, false, List, [], ◌∷◌, Option, Some, None, if◌then◌else◌, length, map}
 use Rattle.changes.specs.declared.Draft.{Draft}
 use Rattle.changes.specs.declared.Partition.{Partition}
 use Rattle.changes.specs.declared.Place.{Place}
 use Rattle.changes.specs.declared.Place.TheVariants.{Cell, Marker, RowGone, RangeGone, PartGone}
 use Rattle.cql_values.specs.declared.value.CqlValue.{CqlValue}
-use Rattle.key_restrictions.specs.Rows.{partition_of, prefix_bytes, bounds_of, is_long}
+use Rattle.key_restrictions.specs.Rows.{prefix_bytes, bounds_of, is_long}
 use Rattle.key_restrictions.specs.declared.restriction.Restriction.{Restriction}
 use Rattle.schema_book.specs.declared.table.ColumnDef.{ColumnDef}
 use Rattle.statement_plan.specs.declared.fault.Fault.{Fault}

@@ -1,5 +1,5 @@
 -- What a prepared statement asks for with its values (CQL reference, "BATCH", "IF", "SELECT").
-use Rattle.std.specs.Prelude.{ℕ, ℤ, pos, negsuc, ◌||◌, not, Bool, true, List, [], ◌∷◌, Option, Some, None, Result, Ok, Err, if◌then◌else◌, fold, flat_map, map}
+use Rattle.std.specs.Prelude.{ℕ, ℤ, pos, negsuc, ◌||◌, not, Bool, true, List, [], ◌∷◌, Option, Some, None, Result, Ok, Err, if◌then◌else◌, fold, flat_map}
 use Rattle.std.specs.List.{list_any}
 use Rattle.std.specs.Ordering.{is_eq}
 use Rattle.changes.specs.Order.{partition_cmp}
@@ -19,7 +19,7 @@ use Rattle.statement_plan.specs.declared.operation.Test.TheVariants as test
 use Rattle.statement_plan.specs.declared.plan.Columns.TheVariants.{Listed}
 use Rattle.statement_plan.specs.declared.plan.Plan.{Plan}
 use Rattle.statement_plan.specs.declared.plan.Plan.TheVariants as plan
-use Rattle.prepared_statement.specs.Prepared.{condition_fault, empty_fault}
+use Rattle.prepared_statement.specs.Prepared.{condition_fault}
 use Rattle.prepared_statement.specs.Structure.{is_conditional}
 use Rattle.prepared_statement.specs.declared.change.Batch.{Batch}
 use Rattle.prepared_statement.specs.declared.change.Change.{Change}
@@ -32,6 +32,7 @@ use Rattle.prepared_statement.specs.declared.prepared.UseKeyspace.{UseKeyspace}
 use Rattle.statement_binder.specs.Changes.{reach_of, size_fault, row_in, is_empty, timestamp_or, drafts_at}
 use Rattle.statement_binder.specs.Supplies.{Left, next_filled, behind_next, front_filled, behind_front, rest_excess}
 use Rattle.statement_binder.specs.declared.filled.Filled.{Filled}
+use Rattle.statement_binder.specs.declared.piece.Aim.{Aim}
 use Rattle.statement_binder.specs.declared.piece.Piece.{Piece}
 use Rattle.statement_binder.specs.declared.reach.Reach.{Reach}
 
@@ -67,6 +68,21 @@ test_of guards.Always tests = test.Present
 test_of guards.NotExists tests = test.Absent
 test_of guards.Exists tests = test.Present
 test_of guards.Tests tests = test.Cells tests
+
+-- where an operation acts, and what it shows
+abbrev pub aim_at : Change → Filled → Reach → Aim
+aim_at c f at = record {
+  fault = own_fault c f (partition_by c f) at;
+  partition = partition_by c f;
+  row = row_in at;
+  shown = c.shown;
+}
+
+abbrev pub aimed : Aim → List Draft → Test → Option Fault × ConditionalOperation
+aimed a changes t = (
+  a.fault,
+  record { partition = a.partition; row = a.row; test = t; changes = changes; shown = Listed a.shown },
+)
 
 abbrev pub operation_at : Change → Filled → Partition → Reach → Option Fault × ConditionalOperation
 operation_at c f partition at = (

@@ -87,7 +87,9 @@ fn idle_fault(alloc: Global, supply: Supply) -> Result<Option<Fault>, AllocError
 {
     let mut supply = supply;
     let filled = supply.fill(alloc, &[])?;
-    Ok(lower(filled.fault, supply.excess()))
+    let fault = lower(filled.fault, supply.excess());
+    drop(filled);
+    Ok(fault)
 }
 
 fn use_fault(named: &UseKeyspace) -> Option<Fault>
@@ -183,5 +185,7 @@ pub fn bind(
     ensures { Answers result (meaning_of schema.now (option_copied keyspace.entry) values.now timestamp statement.now) }
 {
     let prepared = outline(alloc, schema, keyspace, statement)?;
-    fill(alloc, &prepared, Values::Whole(values), timestamp)
+    let plan = fill(alloc, &prepared, Values::Whole(values), timestamp);
+    drop(prepared);
+    plan
 }

@@ -6,7 +6,7 @@ ghost use Rattle.cql_values.specs.Protocol.{decoded as decoded_of};
 ghost use Rattle.cql_values.specs.declared.value.CqlType.TheVariants as types;
 ghost use Rattle.statement_values.specs.Sources.{left_in};
 ghost use Rattle.prepared_statement.specs.Faults.{fits, slot_fault as slot_fault_of, value_at as value_at_of};
-ghost use Rattle.statement_binder.specs.Filled.{compare_of as compare_of_operator, value_in as value_in_of, stored as stored_of, written as written_of, timestamp_in as timestamp_in_of, limit_in as limit_in_of, with_key, place_for as place_for_of, with_cell, with_test, by_role, is_mismatch as is_mismatch_of, tells_mismatch as tells_mismatch_of, IfGiven, IsWritten, with_slot, given_to as given_to_slot, behind, left_after, unfilled, filled_of};
+ghost use Rattle.statement_binder.specs.Filled.{compare_of as compare_of_operator, value_in as value_in_of, stored as stored_of, written as written_of, timestamp_in as timestamp_in_of, limit_in as limit_in_of, with_key, place_for as place_for_of, with_cell, with_test, by_role, is_mismatch as is_mismatch_of, tells_mismatch as tells_mismatch_of, IfGiven, IsWritten, with_slot, given_to as given_to_slot, behind, left_after, unfilled, filled_from, filled_of};
 
 use condition_test::order_of;
 use cql_statement::{RelationOperator, TestOperator};
@@ -222,12 +222,15 @@ impl Filled {
 
     fn add_key(
         &mut self,
+        alloc: Global,
         column: usize,
         operator: RelationOperator,
-        value: Option<CqlValue>,
+        ty: CqlType,
+        param: Option<&Param>,
     ) -> Result<(), AllocError>
-        ensures { OnOk result (self.new ≡ with_key self.old column operator value) }
+        ensures { OnOk result (self.new ≡ with_key self.old column operator (value_in_of ty (option_copied param.entry))) }
     {
+        let value = value_in(alloc, ty, param)?;
         if let Some(value) = value {
             self.keys.push(Restriction {
                 column,
@@ -243,10 +246,14 @@ impl Filled {
         &mut self,
         alloc: Global,
         column: usize,
-        value: Option<Option<Bytes>>,
+        ty: CqlType,
+        typed: bool,
+        param: Option<&Param>,
     ) -> Result<(), AllocError>
-        ensures { OnOk result (self.new ≡ with_cell self.old column value) }
+        requires { IfGiven (λ bytes. typed ≡ fits ty bytes) (option_copied param) }
+        ensures { OnOk result (self.new ≡ with_cell self.old column (written_of ty (option_copied param.entry))) }
     {
+        let value = written(alloc, ty, typed, param)?;
         if let Some(value) = value {
             let column = column_number(column);
             let place = place_for(self.cells.as_slice(), column);
@@ -259,13 +266,17 @@ impl Filled {
 
     fn add_test(
         &mut self,
+        alloc: Global,
         column: usize,
         operator: TestOperator,
         ty: CqlType,
-        value: Option<Option<Bytes>>,
+        typed: bool,
+        param: Option<&Param>,
     ) -> Result<(), AllocError>
-        ensures { OnOk result (self.new ≡ with_test self.old column operator ty value) }
+        requires { IfGiven (λ bytes. typed ≡ fits ty bytes) (option_copied param) }
+        ensures { OnOk result (self.new ≡ with_test self.old column operator ty (written_of ty (option_copied param.entry))) }
     {
+        let value = written(alloc, ty, typed, param)?;
         if let Some(value) = value {
             self.tests.push(CellTest {
                 column: column_number(column),
@@ -290,17 +301,10 @@ impl Filled {
         ensures { OnOk result (self.new ≡ by_role self.old role ty (option_copied param.entry)) }
     {
         match role {
-            Role::Key(column, operator) => {
-                let value = value_in(alloc, ty, param)?;
-                self.add_key(column, operator, value)
-            }
-            Role::Cell(column) => {
-                let value = written(alloc, ty, typed, param)?;
-                self.add_cell(alloc, column, value)
-            }
+            Role::Key(column, operator) => { self.add_key(alloc, column, operator, ty, param) }
+            Role::Cell(column) => self.add_cell(alloc, column, ty, typed, param),
             Role::Test(column, operator) => {
-                let value = written(alloc, ty, typed, param)?;
-                self.add_test(column, operator, ty, value)
+                self.add_test(alloc, column, operator, ty, typed, param)
             }
             Role::Timestamp => {
                 self.timestamp = timestamp_in(param);
@@ -343,6 +347,23 @@ fn given_to<'a>(supplier: &mut Supplier<'a>, slot: &Slot) -> Option<&'a Param>
     }
 }
 
+/// Adds slots with the values that are left for them.
+fn add_slots(
+    filled: &mut Filled,
+    alloc: Global,
+    slots: &[Slot],
+    supplier: &mut Supplier,
+) -> Result<(), AllocError>
+    ensures values { OnOk result (filled.new ≡ filled_from filled.old (left_in supplier.old) slots.now) }
+    ensures left { OnOk result (left_in supplier.new ≡ left_after (left_in supplier.old) slots.now) }
+{
+    for slot in slots {
+        let given = given_to(supplier, slot);
+        filled.add(alloc, slot, given)?;
+    }
+    Ok(())
+}
+
 /// The slots of a statement with the values that are left for them.
 pub(crate) fn fill_slots(
     alloc: Global,
@@ -353,9 +374,5 @@ pub(crate) fn fill_slots(
     ensures left { OnOk result (left_in supplier.new ≡ left_after (left_in supplier.old) slots.now) }
 {
     let mut filled = Filled::new(alloc);
-    for slot in slots {
-        let given = given_to(supplier, slot);
-        filled.add(alloc, slot, given)?;
-    }
-    Ok(filled)
+    add_slots(&mut filled, alloc, slots, supplier).and(Ok(filled))
 }

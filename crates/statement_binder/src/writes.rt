@@ -3,7 +3,7 @@
 ghost use Rattle.std.specs.Prelude.{◌≡◌, ◌++◌, IfOk, OnOk};
 ghost use Rattle.std.specs.List.{list_any};
 ghost use Rattle.std.specs.Vec.Iter.{into_iter_items};
-ghost use Rattle.statement_binder.specs.Answers.{Gives};
+ghost use Rattle.statement_binder.specs.Answers.{Gives, checked};
 ghost use Rattle.statement_binder.specs.Plans.{operation_plan, operation_of as operation_of_change, write_plan, filled_change, change_plan, batch_piece as batch_piece_of, pieces_of, behind_all, pieces_fault as pieces_fault_of, is_elsewhere as is_elsewhere_of, is_scattered as is_scattered_of, scatter_fault as scatter_fault_of, batch_fault as batch_fault_of, drafts_of, mutation_of_pieces, filled_batch, batch_plan};
 ghost use Rattle.statement_binder.specs.Supplies.{left_for, next_filled, behind_next};
 
@@ -19,6 +19,15 @@ use statement_plan::{Fault, Feature, Plan};
 use std::alloc::{AllocError, Global};
 use std::vec::IntoIter;
 
+fn check(fault: Option<Fault>) -> Result<(), BindError>
+    ensures { result ≡ checked fault }
+{
+    match fault {
+        Some(fault) => Err(BindError::Refused(fault)),
+        None => Ok(()),
+    }
+}
+
 fn operation(
     alloc: Global,
     change: &Change,
@@ -28,22 +37,18 @@ fn operation(
     ensures { Gives result (operation_plan excess (operation_of_change change.now filled)) }
 {
     let (fault, operation) = operation_of(alloc, change, filled)?;
-    match lower(fault, excess) {
-        Some(fault) => Err(BindError::Refused(fault)),
-        None => Ok(Plan::Conditional(operation)),
-    }
+    check(lower(fault, excess)).and(Ok(Plan::Conditional(operation)))
 }
 
 fn write(piece: Piece, excess: Option<Fault>) -> Result<Plan, BindError>
     ensures { Gives result (write_plan excess piece) }
 {
-    match lower(piece.fault, excess) {
-        Some(fault) => Err(BindError::Refused(fault)),
-        None => Ok(Plan::Write(DraftMutation {
-            partition: piece.partition,
-            changes: piece.drafts,
-        })),
-    }
+    let fault = lower(piece.fault, excess);
+    let mutation = DraftMutation {
+        partition: piece.partition,
+        changes: piece.drafts,
+    };
+    check(fault).and(Ok(Plan::Write(mutation)))
 }
 
 fn filled_plan(
@@ -227,6 +232,8 @@ pub(crate) fn batch(
     let mut supply = supply;
     let front = supply.fill_front(alloc, batch.slots.as_slice())?;
     let timestamp = timestamp_or(front.timestamp, timestamp);
+    let fault = front.fault;
+    drop(front);
     let pieces = pieces(alloc, timestamp, &mut supply, batch.changes.as_slice())?;
-    batch_of_pieces(front.fault, supply.excess(), pieces)
+    batch_of_pieces(fault, supply.excess(), pieces)
 }

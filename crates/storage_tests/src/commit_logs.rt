@@ -104,7 +104,7 @@ const DAMAGED: [(&[u8], u64); 5] = [
 ];
 
 /// Makes these bytes the file.
-fn put(store: &mut MemStore, f: FileNo, bytes: &[u8]) -> Result<(), Fail>
+pub(crate) fn put(store: &mut MemStore, f: FileNo, bytes: &[u8]) -> Result<(), Fail>
     ensures { OnOk result (IsSettled f (disk_of store.new)) }
 {
     store.reserve(f, bytes.len() as u64)?;

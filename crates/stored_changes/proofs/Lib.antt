@@ -3,3 +3,4 @@ pub mod Order
 pub mod Words
 pub mod Spelled
 pub mod Lengths
+mod Written

@@ -24,7 +24,7 @@ bound_word bytes x e =
     let a = bind_ok (flag_at bytes) (λ after. field_at after.1 >>= λ at. Ok (record { at = at.0; after = after.0 }, at.1)) x e in
     let b = bind_ok (field_at a.0.1) (λ at. Ok (record { at = at.0; after = a.0.0 }, at.1)) x a.2 in
     let made : Bound × List ℕ = (record { at = b.0.0; after = a.0.0 }, b.0.1) in
-    subst (λ (q : Bound × List ℕ). IsBound bytes q.0 q.1) (ok_is made x b.2)
+    subst (λ (q : Bound × List ℕ). IsBound bytes q.0 q.1) {x = made} (ok_is made x b.2)
     (a.0.1, flag_agrees.is_word bytes a.0 a.1, field_agrees.is_word a.0.1 b.0 b.1)
 
 bound_read : (bytes : List ℕ) (b : Bound) (rest : List ℕ) → IsBound bytes b rest → bound_at bytes ≡ Ok (b, rest)
@@ -46,19 +46,19 @@ cell_word bytes x e =
     let a = bind_ok (field_at bytes) (λ row. u8_at row.1 >>= λ column. Ok (Cell row.0 column.0, column.1)) x e in
     let b = bind_ok (u8_at a.0.1) (λ column. Ok (Cell a.0.0 column.0, column.1)) x a.2 in
     let made : Place × List ℕ = (Cell a.0.0 b.0.0, b.0.1) in
-    subst (IsTagged 1 bytes) (ok_is made x b.2) (refl, (a.0.1, field_agrees.is_word bytes a.0 a.1, u8_agrees.is_word a.0.1 b.0 b.1))
+    subst (IsTagged 1 bytes) {x = made} (ok_is made x b.2) (refl, (a.0.1, field_agrees.is_word bytes a.0 a.1, u8_agrees.is_word a.0.1 b.0 b.1))
 
 marker_word : (bytes : List ℕ) (x : Place × List ℕ) → marker_at bytes ≡ Ok x → IsTagged 2 bytes x
 marker_word bytes x e =
     let a = bind_ok (field_at bytes) (λ row. Ok (Marker row.0, row.1)) x e in
     let made : Place × List ℕ = (Marker a.0.0, a.0.1) in
-    subst (IsTagged 2 bytes) (ok_is made x a.2) (refl, field_agrees.is_word bytes a.0 a.1)
+    subst (IsTagged 2 bytes) {x = made} (ok_is made x a.2) (refl, field_agrees.is_word bytes a.0 a.1)
 
 row_gone_word : (bytes : List ℕ) (x : Place × List ℕ) → row_gone_at bytes ≡ Ok x → IsTagged 3 bytes x
 row_gone_word bytes x e =
     let a = bind_ok (field_at bytes) (λ row. Ok (RowGone row.0, row.1)) x e in
     let made : Place × List ℕ = (RowGone a.0.0, a.0.1) in
-    subst (IsTagged 3 bytes) (ok_is made x a.2) (refl, field_agrees.is_word bytes a.0 a.1)
+    subst (IsTagged 3 bytes) {x = made} (ok_is made x a.2) (refl, field_agrees.is_word bytes a.0 a.1)
 
 range_gone_word : (bytes : List ℕ) (x : Place × List ℕ) → range_gone_at bytes ≡ Ok x → IsTagged 4 bytes x
 unfolding range_gone_at
@@ -66,7 +66,7 @@ range_gone_word bytes x e =
     let a = bind_ok (bound_at bytes) (λ from. bound_at from.1 >>= λ upto. Ok (RangeGone from.0 upto.0, upto.1)) x e in
     let b = bind_ok (bound_at a.0.1) (λ upto. Ok (RangeGone a.0.0 upto.0, upto.1)) x a.2 in
     let made : Place × List ℕ = (RangeGone a.0.0 b.0.0, b.0.1) in
-    subst (IsTagged 4 bytes) (ok_is made x b.2) (refl, (a.0.1, bound_word bytes a.0 a.1, bound_word a.0.1 b.0 b.1))
+    subst (IsTagged 4 bytes) {x = made} (ok_is made x b.2) (refl, (a.0.1, bound_word bytes a.0 a.1, bound_word a.0.1 b.0 b.1))
 
 part_gone_word : (bytes : List ℕ) (left : ℕ) (tag : ℕ) (x : Place × List ℕ) → cond (eqb tag 5) (Ok (PartGone, bytes)) (Err (Tag left)) ≡ Ok x → (tag ≡ 5) × IsTagged 5 bytes x
 part_gone_word bytes left tag x e =
@@ -124,10 +124,10 @@ Value = Option (List ℕ) × List ℕ
 
 value_word : (p : Place) (bytes : List ℕ) (x : Value) → value_at p bytes ≡ Ok x → IsValue p bytes x.0 x.1
 value_word (Cell row column) bytes x e = cell_value_agrees.is_word bytes x e
-value_word (Marker row) bytes x e = let made : Value = (Some [], bytes) in subst (λ (q : Value). (q.0 ≡ Some []) × (bytes ≡ q.1)) (ok_is made x e) (refl, refl)
-value_word (RowGone row) bytes x e = let made : Value = (None, bytes) in subst (λ (q : Value). (q.0 ≡ None) × (bytes ≡ q.1)) (ok_is made x e) (refl, refl)
-value_word (RangeGone from upto) bytes x e = let made : Value = (None, bytes) in subst (λ (q : Value). (q.0 ≡ None) × (bytes ≡ q.1)) (ok_is made x e) (refl, refl)
-value_word PartGone bytes x e = let made : Value = (None, bytes) in subst (λ (q : Value). (q.0 ≡ None) × (bytes ≡ q.1)) (ok_is made x e) (refl, refl)
+value_word (Marker row) bytes x e = let made : Value = (Some [], bytes) in subst (λ (q : Value). (q.0 ≡ Some []) × (bytes ≡ q.1)) {x = made} (ok_is made x e) (refl, refl)
+value_word (RowGone row) bytes x e = let made : Value = (None, bytes) in subst (λ (q : Value). (q.0 ≡ None) × (bytes ≡ q.1)) {x = made} (ok_is made x e) (refl, refl)
+value_word (RangeGone from upto) bytes x e = let made : Value = (None, bytes) in subst (λ (q : Value). (q.0 ≡ None) × (bytes ≡ q.1)) {x = made} (ok_is made x e) (refl, refl)
+value_word PartGone bytes x e = let made : Value = (None, bytes) in subst (λ (q : Value). (q.0 ≡ None) × (bytes ≡ q.1)) {x = made} (ok_is made x e) (refl, refl)
 
 stays : (bytes rest : List ℕ) (a b : Option (List ℕ)) → b ≡ a → bytes ≡ rest → (let read : Read (Option (List ℕ)) = Ok (a, bytes) in read) ≡ Ok (b, rest)
 stays bytes rest a b p q = ap (λ (v : Option (List ℕ)). Ok (v, bytes)) (sym p) ∙ ap (λ (r : List ℕ). Ok (b, r)) q
@@ -172,7 +172,7 @@ behind_place_word p bytes x e =
       submitted = u64_agrees.is_word b.0.1 d.0 d.1;
       request = request_agrees.is_word d.0.1 f.0 f.1;
     } in
-    subst (λ (q : Held × List ℕ). IsBehindPlace bytes q.0 q.1 × (p ≡ q.0.place)) (ok_is made x f.2) (whole, refl)
+    subst (λ (q : Held × List ℕ). IsBehindPlace bytes q.0 q.1 × (p ≡ q.0.place)) {x = made} (ok_is made x f.2) (whole, refl)
 
 behind_place_read : (bytes : List ℕ) (x : Held) (rest : List ℕ) → IsBehindPlace bytes x rest → behind_place_at x.place bytes ≡ Ok (x, rest)
 unfolding behind_place_at
@@ -260,7 +260,7 @@ partition_word bytes x e =
     let b = bind_ok (i64_at a.0.1) (λ token. field_at token.1 >>= λ key. Ok (record { token = token.0; table = a.0.0; key = key.0 }, key.1)) x a.2 in
     let d = bind_ok (field_at b.0.1) (λ key. Ok (record { token = b.0.0; table = a.0.0; key = key.0 }, key.1)) x b.2 in
     let made : Partition × List ℕ = (record { token = b.0.0; table = a.0.0; key = d.0.0 }, d.0.1) in
-    subst (λ (q : Partition × List ℕ). IsPartition bytes q.0 q.1) (ok_is made x d.2)
+    subst (λ (q : Partition × List ℕ). IsPartition bytes q.0 q.1) {x = made} (ok_is made x d.2)
     (record {
       behind_table = a.0.1;
       behind_token = b.0.1;
@@ -283,7 +283,7 @@ mutation_word bytes x e =
     let a = bind_ok (partition_at bytes) (λ partition. changes_at partition.1 >>= λ changes. Ok (record { partition = partition.0; changes = changes.0 }, changes.1)) x e in
     let b = bind_ok (changes_at a.0.1) (λ changes. Ok (record { partition = a.0.0; changes = changes.0 }, changes.1)) x a.2 in
     let made : Mutation × List ℕ = (record { partition = a.0.0; changes = b.0.0 }, b.0.1) in
-    subst (λ (q : Mutation × List ℕ). IsMutation bytes q.0 q.1) (ok_is made x b.2)
+    subst (λ (q : Mutation × List ℕ). IsMutation bytes q.0 q.1) {x = made} (ok_is made x b.2)
     (record { behind_partition = a.0.1; partition = partition_word bytes a.0 a.1; changes = changes_word a.0.1 b.0 b.1 })
 
 mutation_read : (bytes : List ℕ) (m : Mutation) (rest : List ℕ) → IsMutation bytes m rest → mutation_at bytes ≡ Ok (m, rest)

@@ -63,13 +63,17 @@ value_at (RowGone row) bytes = Ok (None, bytes)
 value_at (RangeGone from upto) bytes = Ok (None, bytes)
 value_at PartGone bytes = Ok (None, bytes)
 
+abbrev pub stamped_at : Place → Option (List ℕ) → List ℕ → Read Held
+stamped_at place value bytes = do
+  timestamp ← i64_at bytes
+  submitted ← u64_at timestamp.1
+  request ← request_at submitted.1
+  Ok (record { place = place; value = value; timestamp = timestamp.0; submitted = submitted.0; request = request.0 }, request.1)
+
 unfoldable pub behind_place_at : Place → List ℕ → Read Held
 behind_place_at place bytes = do
   value ← value_at place bytes
-  timestamp ← i64_at value.1
-  submitted ← u64_at timestamp.1
-  request ← request_at submitted.1
-  Ok (record { place = place; value = value.0; timestamp = timestamp.0; submitted = submitted.0; request = request.0 }, request.1)
+  stamped_at place value.0 value.1
 
 -- the place stands behind the one before it, if there is one
 abbrev pub ascends : Option Place → Place → Bool

@@ -4,12 +4,12 @@ ghost use Rattle.std.specs.Prelude.{◌≡◌, [], ◌++◌, IfOk, OnOk};
 ghost use Rattle.std.specs.List.{AllByRecursion, flat_map};
 ghost use Rattle.std.specs.Option.{option_copied};
 ghost use Rattle.stored_fields.specs.Reading.{Gives, field_at, optional_at};
-ghost use Rattle.stored_changes.specs.Reading.{ascends as ascends_from, behind_place_at, change_at, changes_at, counted_at, last_place as last_place_of, value_at};
+ghost use Rattle.stored_changes.specs.Reading.{ascends as ascends_from, behind_place_at, change_at, changes_at, counted_at, last_place as last_place_of, stamped_at, value_at};
 ghost use Rattle.stored_changes.specs.Spelling.{ChangeFits, ChangeInRange, ChangesFit, ChangesInRange, ValueFits, change as change_bytes, changes as changes_bytes, value as value_bytes};
 
 use crate::place::{read_place, write_place};
 use changes::{Held, Helds, Place};
-use cs_base::{Bytes, Items, Micros};
+use cs_base::{Bytes, Items, Micros, ReqId};
 use std::alloc::{AllocError, Global};
 use stored_fields::{Fault, Reader, write_flag, write_stamps, write_tagged_field, write_u32};
 
@@ -38,21 +38,58 @@ fn read_value(alloc: Global, place: &Place, reader: &mut Reader<'_>) -> Result<O
     }
 }
 
-#[tactic(auto, unfolding(crate::specs::Reading::behind_place_at))]
-fn read_behind_place(alloc: Global, place: Place, reader: &mut Reader<'_>) -> Result<Held, Fault>
-    ensures { Gives (λ x. (x, reader.new.rest.now)) result (behind_place_at place reader.old.rest.now) }
+/// The numbers of a change.
+#[derive(Clone, Copy)]
+struct Stamps {
+    timestamp: i64,
+    submitted: Micros,
+    request: ReqId,
+}
+
+fn read_stamps(reader: &mut Reader<'_>) -> Result<Stamps, Fault>
+    ensures { (place : _) (value : _) → Gives (λ s. (record { place = place; value = value; timestamp = s.timestamp; submitted = s.submitted; request = s.request }, reader.new.rest.now)) result (stamped_at place value reader.old.rest.now) }
 {
-    let value = read_value(alloc, &place, reader)?;
     let timestamp = reader.i64()?;
     let submitted = Micros::new(reader.u64()?);
     let request = reader.request()?;
-    Ok(Held {
-        place,
-        value,
+    Ok(Stamps {
         timestamp,
         submitted,
         request,
     })
+}
+
+/// A change of the place, with the value, whose numbers follow.
+fn read_stamped(place: Place, value: Option<Bytes>, reader: &mut Reader<'_>) -> Result<Held, Fault>
+    ensures { Gives (λ x. (x, reader.new.rest.now)) result (stamped_at place value reader.old.rest.now) }
+{
+    match read_stamps(reader) {
+        Ok(stamps) => Ok(Held {
+            place,
+            value,
+            timestamp: stamps.timestamp,
+            submitted: stamps.submitted,
+            request: stamps.request,
+        }),
+        Err(fault) => {
+            drop(value);
+            drop(place);
+            Err(fault)
+        }
+    }
+}
+
+#[tactic(auto, unfolding(crate::specs::Reading::behind_place_at))]
+fn read_behind_place(alloc: Global, place: Place, reader: &mut Reader<'_>) -> Result<Held, Fault>
+    ensures { Gives (λ x. (x, reader.new.rest.now)) result (behind_place_at place reader.old.rest.now) }
+{
+    match read_value(alloc, &place, reader) {
+        Ok(value) => read_stamped(place, value, reader),
+        Err(fault) => {
+            drop(place);
+            Err(fault)
+        }
+    }
 }
 
 /// Whether the place stands behind the one before it, if there is one.
@@ -77,6 +114,7 @@ pub fn read_change(
     let left = reader.left();
     let place = read_place(alloc, reader)?;
     if !ascends(before, &place) {
+        drop(place);
         return Err(Fault::Order(left));
     }
     read_behind_place(alloc, place, reader)

@@ -1,5 +1,5 @@
 use Rattle.std.proofs.Common.{◌≡◌, take, reverse}
-use Rattle.chronicle_print.specs.Printed.{joined}
+use Rattle.chronicle_pieces.specs.Pieces.{joined}
 use Rattle.chronicle_print.specs.Printing.{HasPrinted}
 use Rattle.chronicle_print.proofs.printer.print_chronicle.Given as goal
 

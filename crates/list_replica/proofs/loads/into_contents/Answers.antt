@@ -12,22 +12,8 @@ loop-partition-init c = record {
 
 pub loop-partition-preserved : goal.loop-partition-preserved
 loop-partition-preserved c = record {
-  made = made_more c.loop-partition.contents.entries c.insert.new.self.entries c.loop-partition.partition-iterator c.next.new.self c.args.loads.entries c.in-Some.partition c.in-Some.loaded c.in_ok-into_content.field-0
-      c.into_iter-partition-iterator.ensures.into_iter_gives.5 c.loop-partition.invariant.made c.in-Some.ensures.steps c.in_ok-into_content.ensures c.in_ok-insert.ensures.entries;
-  ordered = c.insert.ensures.ordered;
-}
-
-pub loop-partition-preserved-in_ok-insert : goal.loop-partition-preserved-in_ok-insert
-loop-partition-preserved-in_ok-insert c = record {
-  made = made_more c.loop-partition.contents.entries c.insert.new.self.entries c.loop-partition.partition-iterator c.next.new.self c.args.loads.entries c.in-Some.partition c.in-Some.loaded c.in_ok-into_content.field-0
-      c.into_iter-partition-iterator.ensures.into_iter_gives.5 c.loop-partition.invariant.made c.in-Some.ensures.steps c.in_ok-into_content.ensures c.in_ok-insert.ensures.entries;
-  ordered = c.insert.ensures.ordered;
-}
-
-pub loop-partition-preserved-in_ok-insert-2 : goal.loop-partition-preserved-in_ok-insert-2
-loop-partition-preserved-in_ok-insert-2 c = record {
-  made = made_more c.loop-partition.contents.entries c.insert.new.self.entries c.loop-partition.partition-iterator c.next.new.self c.args.loads.entries c.in-Some.partition c.in-Some.loaded c.in_ok-into_content.field-0
-      c.into_iter-partition-iterator.ensures.into_iter_gives.5 c.loop-partition.invariant.made c.in-Some.ensures.steps c.in_ok-into_content.ensures c.in_ok-insert.ensures.entries;
+  made = made_more c.loop-partition.contents.entries c.insert.new.self.entries c.loop-partition.partition-iterator c.next.new.self c.args.loads.entries c.in-Some.partition c.in-Some.loaded c.in-Ok.content
+      c.into_iter-partition-iterator.ensures.into_iter_gives.5 c.loop-partition.invariant.made c.in-Some.ensures.steps c.in-Ok.ensures c.in_ok-insert-in-Ok.ensures.entries;
   ordered = c.insert.ensures.ordered;
 }
 

@@ -3,7 +3,7 @@ use Rattle.std.proofs.lemmas.List.{append_assoc}
 use Rattle.node_core.specs.declared.due.DueKey.{DueKey}
 use Rattle.node_core.specs.Due.{AreDueKeys}
 use Rattle.node_core.specs.Hinting.{at}
-use Rattle.node_core.proofs.Passing.{among, due_taken, key_moment, key_zero, next_due, passed_more, passed_none}
+use Rattle.node_core.proofs.Passing.{among, due_taken, key_moment, key_own, next_due, passed_more, passed_none}
 use Rattle.node_core.proofs.deadlines.take_due.Goals as goal
 
 pub returns-then-not-has_due-clause-ok : goal.returns-then-not-has_due-clause-ok
@@ -26,7 +26,7 @@ end_due-requires-clause-due c =
 pub end_due-requires-clause-key : goal.end_due-requires-clause-key
 end_due-requires-clause-key c =
     let split = ap (λ (ks : List DueKey). c.loop-key.yielded ++ ks) c.in-Some.ensures.steps in
-    λ zero. key_zero c.args.base.now c.args.hints.now.now c.args.work.now.time (c.loop-key.yielded ++ c.loop-key.key-iterator) c.in-Some.key c.loop-key.invariant.due (subst (λ (ks : List DueKey). Contains ks c.in-Some.key) (sym split) (among c.loop-key.yielded c.in-Some.key c.next.new.self)) zero
+    λ own. key_own c.args.base.now c.args.hints.now.now c.args.work.now.time (c.loop-key.yielded ++ c.loop-key.key-iterator) c.in-Some.key c.loop-key.invariant.due (subst (λ (ks : List DueKey). Contains ks c.in-Some.key) (sym split) (among c.loop-key.yielded c.in-Some.key c.next.new.self)) own
 
 pub end_due-requires-clause-next : goal.end_due-requires-clause-next
 end_due-requires-clause-next c =

@@ -16,9 +16,9 @@ deadline_key-requires c = c.requires c.id-item.result (contains_at c.args.ids.no
 
 pub loop-id-preserved : goal.loop-id-preserved
 loop-id-preserved c =
-    subst (λ (ids : List ReqId). (k : DueKey) → Contains c.insert.new.self.keys k ↔ (Contains c.args.due.now.keys k ⊎ IsDeadlineKey ids k)) (sym (front_more c.args.ids.now c.loop-id.id-index c.id-item.result c.loop-id-test.true c.id-item.is))
+    subst (λ (ids : List ReqId). (k : DueKey) → Contains c.put.new.due.keys k ↔ (Contains c.args.due.now.keys k ⊎ IsDeadlineKey ids k)) (sym (front_more c.args.ids.now c.loop-id.id-index c.id-item.result c.loop-id-test.true c.id-item.is))
     (subst (λ (ks : List DueKey). (k : DueKey) → Contains ks k ↔ (Contains c.args.due.now.keys k ⊎ IsDeadlineKey (take c.loop-id.id-index c.args.ids.now ++ c.id-item.result ∷ []) k))
-    (sym (c.in_ok-insert.ensures.keys ∙ ap (λ (k : DueKey). insert_key key_cmp c.loop-id.due.keys k) c.deadline_key.ensures))
+    (sym (c.in_ok-put.ensures ∙ ap (λ (k : DueKey). insert_key key_cmp c.loop-id.due.keys k) c.deadline_key.ensures))
     (deadlines_more c.args.due.now.keys c.loop-id.due.keys (take c.loop-id.id-index c.args.ids.now) c.id-item.result c.loop-id.invariant))
 
 pub returns : goal.returns

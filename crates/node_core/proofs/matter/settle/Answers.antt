@@ -21,153 +21,39 @@ loop-sent-init g c = record {
 pub loop-sent-smaller : goal.loop-sent-smaller
 loop-sent-smaller g c =
     let pops = pops_by c.loop-sent.work (record c.loop-sent.work { queue = c.pop_front.new.self }) c.in-Some.sent c.pop_front.result refl c.pop_front.ensures.items c.in-Some.is in
-    let lighter = by_lighter c.args.base.now g.R.Disk.Store.is_honest (g.R.Replica.durable c.loop-sent.replica) c.in-Some.sent (at (record c.loop-sent.work { queue = c.pop_front.new.self }) c.loop-sent.hints.now) (at c.hear_own.new.work c.hear_own.new.hints.now) c.in_ok-hear_own.ensures.ok in
+    let lighter = by_lighter c.args.base.now g.R.Disk.Store.is_honest (g.R.Replica.durable c.loop-sent.replica) c.in-Some.sent (at (record c.loop-sent.work { queue = c.pop_front.new.self }) c.loop-sent.hints.now) (at c.hear_own-heard.new.work c.hear_own-heard.new.hints.now) c.in_ok-heard.ensures.ok in
     let before = ap weight pops.0 in
     omega arith
 
 pub loop-sent-preserved : goal.loop-sent-preserved
 loop-sent-preserved g c =
     let pops = pops_by c.loop-sent.work (record c.loop-sent.work { queue = c.pop_front.new.self }) c.in-Some.sent c.pop_front.result refl c.pop_front.ensures.items c.in-Some.is in
-    let whole : g.R.Replica.is_whole c.hear_own.new.replica = search rules in
+    let whole : g.R.Replica.is_whole c.hear_own-heard.new.replica = search rules in
     record {
-      along = along_more c.args.base.now g.R.Disk.Store.is_honest (g.R.Replica.durable c.args.replica.now) (at c.args.work.now c.args.hints.now.now) (at c.loop-sent.work c.loop-sent.hints.now) (at (record c.loop-sent.work { queue = c.pop_front.new.self }) c.loop-sent.hints.now) (at c.hear_own.new.work c.hear_own.new.hints.now) c.in-Some.sent c.loop-sent.invariant.along pops refl
-          (by_at c.args.base.now g.R.Disk.Store.is_honest (g.R.Replica.durable c.loop-sent.replica) (g.R.Replica.durable c.args.replica.now) c.in-Some.sent (at (record c.loop-sent.work { queue = c.pop_front.new.self }) c.loop-sent.hints.now) (at c.hear_own.new.work c.hear_own.new.hints.now) (λ honest. (c.loop-sent.invariant.peeks.looked honest).same) c.in_ok-hear_own.ensures.ok);
-      peeks = peeks_on _ _ _ _ _ _ _ c.args.replica.now c.loop-sent.replica c.hear_own.new.replica c.loop-sent.invariant.peeks c.hear_own.ensures.peeks;
+      along = along_more c.args.base.now g.R.Disk.Store.is_honest (g.R.Replica.durable c.args.replica.now) (at c.args.work.now c.args.hints.now.now) (at c.loop-sent.work c.loop-sent.hints.now) (at (record c.loop-sent.work { queue = c.pop_front.new.self }) c.loop-sent.hints.now) (at c.hear_own-heard.new.work c.hear_own-heard.new.hints.now) c.in-Some.sent c.loop-sent.invariant.along pops refl
+          (by_at c.args.base.now g.R.Disk.Store.is_honest (g.R.Replica.durable c.loop-sent.replica) (g.R.Replica.durable c.args.replica.now) c.in-Some.sent (at (record c.loop-sent.work { queue = c.pop_front.new.self }) c.loop-sent.hints.now) (at c.hear_own-heard.new.work c.hear_own-heard.new.hints.now) (λ honest. (c.loop-sent.invariant.peeks.looked honest).same) c.in_ok-heard.ensures.ok);
+      peeks = peeks_on _ _ _ _ _ _ _ c.args.replica.now c.loop-sent.replica c.hear_own-heard.new.replica c.loop-sent.invariant.peeks c.hear_own-heard.ensures.peeks;
       whole = whole;
-      before = c.hear_own.ensures.before ∙ c.loop-sent.invariant.before;
+      before = c.hear_own-heard.ensures.before ∙ c.loop-sent.invariant.before;
     }
 
-pub loop-sent-smaller-in_ok-hear_own : goal.loop-sent-smaller-in_ok-hear_own
-loop-sent-smaller-in_ok-hear_own g c =
-    let pops = pops_by c.loop-sent.work (record c.loop-sent.work { queue = c.pop_front.new.self }) c.in-Some.sent c.pop_front.result refl c.pop_front.ensures.items c.in-Some.is in
-    let lighter = by_lighter c.args.base.now g.R.Disk.Store.is_honest (g.R.Replica.durable c.loop-sent.replica) c.in-Some.sent (at (record c.loop-sent.work { queue = c.pop_front.new.self }) c.loop-sent.hints.now) (at c.hear_own.new.work c.hear_own.new.hints.now) c.in_ok-hear_own.ensures.ok in
-    let before = ap weight pops.0 in
-    omega arith
-
-pub loop-sent-preserved-in_ok-hear_own : goal.loop-sent-preserved-in_ok-hear_own
-loop-sent-preserved-in_ok-hear_own g c =
-    let pops = pops_by c.loop-sent.work (record c.loop-sent.work { queue = c.pop_front.new.self }) c.in-Some.sent c.pop_front.result refl c.pop_front.ensures.items c.in-Some.is in
-    let whole : g.R.Replica.is_whole c.hear_own.new.replica = search rules in
-    record {
-      along = along_more c.args.base.now g.R.Disk.Store.is_honest (g.R.Replica.durable c.args.replica.now) (at c.args.work.now c.args.hints.now.now) (at c.loop-sent.work c.loop-sent.hints.now) (at (record c.loop-sent.work { queue = c.pop_front.new.self }) c.loop-sent.hints.now) (at c.hear_own.new.work c.hear_own.new.hints.now) c.in-Some.sent c.loop-sent.invariant.along pops refl
-          (by_at c.args.base.now g.R.Disk.Store.is_honest (g.R.Replica.durable c.loop-sent.replica) (g.R.Replica.durable c.args.replica.now) c.in-Some.sent (at (record c.loop-sent.work { queue = c.pop_front.new.self }) c.loop-sent.hints.now) (at c.hear_own.new.work c.hear_own.new.hints.now) (λ honest. (c.loop-sent.invariant.peeks.looked honest).same) c.in_ok-hear_own.ensures.ok);
-      peeks = peeks_on _ _ _ _ _ _ _ c.args.replica.now c.loop-sent.replica c.hear_own.new.replica c.loop-sent.invariant.peeks c.hear_own.ensures.peeks;
-      whole = whole;
-      before = c.hear_own.ensures.before ∙ c.loop-sent.invariant.before;
-    }
-
-pub loop-sent-smaller-in_ok-hear_own-2 : goal.loop-sent-smaller-in_ok-hear_own-2
-loop-sent-smaller-in_ok-hear_own-2 g c =
-    let pops = pops_by c.loop-sent.work (record c.loop-sent.work { queue = c.pop_front.new.self }) c.in-Some.sent c.pop_front.result refl c.pop_front.ensures.items c.in-Some.is in
-    let lighter = by_lighter c.args.base.now g.R.Disk.Store.is_honest (g.R.Replica.durable c.loop-sent.replica) c.in-Some.sent (at (record c.loop-sent.work { queue = c.pop_front.new.self }) c.loop-sent.hints.now) (at c.hear_own.new.work c.hear_own.new.hints.now) c.in_ok-hear_own.ensures.ok in
-    let before = ap weight pops.0 in
-    omega arith
-
-pub loop-sent-preserved-in_ok-hear_own-2 : goal.loop-sent-preserved-in_ok-hear_own-2
-loop-sent-preserved-in_ok-hear_own-2 g c =
-    let pops = pops_by c.loop-sent.work (record c.loop-sent.work { queue = c.pop_front.new.self }) c.in-Some.sent c.pop_front.result refl c.pop_front.ensures.items c.in-Some.is in
-    let whole : g.R.Replica.is_whole c.hear_own.new.replica = search rules in
-    record {
-      along = along_more c.args.base.now g.R.Disk.Store.is_honest (g.R.Replica.durable c.args.replica.now) (at c.args.work.now c.args.hints.now.now) (at c.loop-sent.work c.loop-sent.hints.now) (at (record c.loop-sent.work { queue = c.pop_front.new.self }) c.loop-sent.hints.now) (at c.hear_own.new.work c.hear_own.new.hints.now) c.in-Some.sent c.loop-sent.invariant.along pops refl
-          (by_at c.args.base.now g.R.Disk.Store.is_honest (g.R.Replica.durable c.loop-sent.replica) (g.R.Replica.durable c.args.replica.now) c.in-Some.sent (at (record c.loop-sent.work { queue = c.pop_front.new.self }) c.loop-sent.hints.now) (at c.hear_own.new.work c.hear_own.new.hints.now) (λ honest. (c.loop-sent.invariant.peeks.looked honest).same) c.in_ok-hear_own.ensures.ok);
-      peeks = peeks_on _ _ _ _ _ _ _ c.args.replica.now c.loop-sent.replica c.hear_own.new.replica c.loop-sent.invariant.peeks c.hear_own.ensures.peeks;
-      whole = whole;
-      before = c.hear_own.ensures.before ∙ c.loop-sent.invariant.before;
-    }
-
-pub loop-sent-smaller-in_ok-hear_own-3 : goal.loop-sent-smaller-in_ok-hear_own-3
-loop-sent-smaller-in_ok-hear_own-3 g c =
-    let pops = pops_by c.loop-sent.work (record c.loop-sent.work { queue = c.pop_front.new.self }) c.in-Some.sent c.pop_front.result refl c.pop_front.ensures.items c.in-Some.is in
-    let lighter = by_lighter c.args.base.now g.R.Disk.Store.is_honest (g.R.Replica.durable c.loop-sent.replica) c.in-Some.sent (at (record c.loop-sent.work { queue = c.pop_front.new.self }) c.loop-sent.hints.now) (at c.hear_own.new.work c.hear_own.new.hints.now) c.in_ok-hear_own.ensures.ok in
-    let before = ap weight pops.0 in
-    omega arith
-
-pub loop-sent-preserved-in_ok-hear_own-3 : goal.loop-sent-preserved-in_ok-hear_own-3
-loop-sent-preserved-in_ok-hear_own-3 g c =
-    let pops = pops_by c.loop-sent.work (record c.loop-sent.work { queue = c.pop_front.new.self }) c.in-Some.sent c.pop_front.result refl c.pop_front.ensures.items c.in-Some.is in
-    let whole : g.R.Replica.is_whole c.hear_own.new.replica = search rules in
-    record {
-      along = along_more c.args.base.now g.R.Disk.Store.is_honest (g.R.Replica.durable c.args.replica.now) (at c.args.work.now c.args.hints.now.now) (at c.loop-sent.work c.loop-sent.hints.now) (at (record c.loop-sent.work { queue = c.pop_front.new.self }) c.loop-sent.hints.now) (at c.hear_own.new.work c.hear_own.new.hints.now) c.in-Some.sent c.loop-sent.invariant.along pops refl
-          (by_at c.args.base.now g.R.Disk.Store.is_honest (g.R.Replica.durable c.loop-sent.replica) (g.R.Replica.durable c.args.replica.now) c.in-Some.sent (at (record c.loop-sent.work { queue = c.pop_front.new.self }) c.loop-sent.hints.now) (at c.hear_own.new.work c.hear_own.new.hints.now) (λ honest. (c.loop-sent.invariant.peeks.looked honest).same) c.in_ok-hear_own.ensures.ok);
-      peeks = peeks_on _ _ _ _ _ _ _ c.args.replica.now c.loop-sent.replica c.hear_own.new.replica c.loop-sent.invariant.peeks c.hear_own.ensures.peeks;
-      whole = whole;
-      before = c.hear_own.ensures.before ∙ c.loop-sent.invariant.before;
-    }
-
-pub loop-sent-smaller-in_ok-hear_own-4 : goal.loop-sent-smaller-in_ok-hear_own-4
-loop-sent-smaller-in_ok-hear_own-4 g c =
-    let pops = pops_by c.loop-sent.work (record c.loop-sent.work { queue = c.pop_front.new.self }) c.in-Some.sent c.pop_front.result refl c.pop_front.ensures.items c.in-Some.is in
-    let lighter = by_lighter c.args.base.now g.R.Disk.Store.is_honest (g.R.Replica.durable c.loop-sent.replica) c.in-Some.sent (at (record c.loop-sent.work { queue = c.pop_front.new.self }) c.loop-sent.hints.now) (at c.hear_own.new.work c.hear_own.new.hints.now) c.in_ok-hear_own.ensures.ok in
-    let before = ap weight pops.0 in
-    omega arith
-
-pub loop-sent-preserved-in_ok-hear_own-4 : goal.loop-sent-preserved-in_ok-hear_own-4
-loop-sent-preserved-in_ok-hear_own-4 g c =
-    let pops = pops_by c.loop-sent.work (record c.loop-sent.work { queue = c.pop_front.new.self }) c.in-Some.sent c.pop_front.result refl c.pop_front.ensures.items c.in-Some.is in
-    let whole : g.R.Replica.is_whole c.hear_own.new.replica = search rules in
-    record {
-      along = along_more c.args.base.now g.R.Disk.Store.is_honest (g.R.Replica.durable c.args.replica.now) (at c.args.work.now c.args.hints.now.now) (at c.loop-sent.work c.loop-sent.hints.now) (at (record c.loop-sent.work { queue = c.pop_front.new.self }) c.loop-sent.hints.now) (at c.hear_own.new.work c.hear_own.new.hints.now) c.in-Some.sent c.loop-sent.invariant.along pops refl
-          (by_at c.args.base.now g.R.Disk.Store.is_honest (g.R.Replica.durable c.loop-sent.replica) (g.R.Replica.durable c.args.replica.now) c.in-Some.sent (at (record c.loop-sent.work { queue = c.pop_front.new.self }) c.loop-sent.hints.now) (at c.hear_own.new.work c.hear_own.new.hints.now) (λ honest. (c.loop-sent.invariant.peeks.looked honest).same) c.in_ok-hear_own.ensures.ok);
-      peeks = peeks_on _ _ _ _ _ _ _ c.args.replica.now c.loop-sent.replica c.hear_own.new.replica c.loop-sent.invariant.peeks c.hear_own.ensures.peeks;
-      whole = whole;
-      before = c.hear_own.ensures.before ∙ c.loop-sent.invariant.before;
-    }
-
-pub loop-sent-smaller-in_ok-hear_own-5 : goal.loop-sent-smaller-in_ok-hear_own-5
-loop-sent-smaller-in_ok-hear_own-5 g c =
-    let pops = pops_by c.loop-sent.work (record c.loop-sent.work { queue = c.pop_front.new.self }) c.in-Some.sent c.pop_front.result refl c.pop_front.ensures.items c.in-Some.is in
-    let lighter = by_lighter c.args.base.now g.R.Disk.Store.is_honest (g.R.Replica.durable c.loop-sent.replica) c.in-Some.sent (at (record c.loop-sent.work { queue = c.pop_front.new.self }) c.loop-sent.hints.now) (at c.hear_own.new.work c.hear_own.new.hints.now) c.in_ok-hear_own.ensures.ok in
-    let before = ap weight pops.0 in
-    omega arith
-
-pub loop-sent-preserved-in_ok-hear_own-5 : goal.loop-sent-preserved-in_ok-hear_own-5
-loop-sent-preserved-in_ok-hear_own-5 g c =
-    let pops = pops_by c.loop-sent.work (record c.loop-sent.work { queue = c.pop_front.new.self }) c.in-Some.sent c.pop_front.result refl c.pop_front.ensures.items c.in-Some.is in
-    let whole : g.R.Replica.is_whole c.hear_own.new.replica = search rules in
-    record {
-      along = along_more c.args.base.now g.R.Disk.Store.is_honest (g.R.Replica.durable c.args.replica.now) (at c.args.work.now c.args.hints.now.now) (at c.loop-sent.work c.loop-sent.hints.now) (at (record c.loop-sent.work { queue = c.pop_front.new.self }) c.loop-sent.hints.now) (at c.hear_own.new.work c.hear_own.new.hints.now) c.in-Some.sent c.loop-sent.invariant.along pops refl
-          (by_at c.args.base.now g.R.Disk.Store.is_honest (g.R.Replica.durable c.loop-sent.replica) (g.R.Replica.durable c.args.replica.now) c.in-Some.sent (at (record c.loop-sent.work { queue = c.pop_front.new.self }) c.loop-sent.hints.now) (at c.hear_own.new.work c.hear_own.new.hints.now) (λ honest. (c.loop-sent.invariant.peeks.looked honest).same) c.in_ok-hear_own.ensures.ok);
-      peeks = peeks_on _ _ _ _ _ _ _ c.args.replica.now c.loop-sent.replica c.hear_own.new.replica c.loop-sent.invariant.peeks c.hear_own.ensures.peeks;
-      whole = whole;
-      before = c.hear_own.ensures.before ∙ c.loop-sent.invariant.before;
-    }
-
-pub loop-sent-smaller-in_ok-hear_own-6 : goal.loop-sent-smaller-in_ok-hear_own-6
-loop-sent-smaller-in_ok-hear_own-6 g c =
-    let pops = pops_by c.loop-sent.work (record c.loop-sent.work { queue = c.pop_front.new.self }) c.in-Some.sent c.pop_front.result refl c.pop_front.ensures.items c.in-Some.is in
-    let lighter = by_lighter c.args.base.now g.R.Disk.Store.is_honest (g.R.Replica.durable c.loop-sent.replica) c.in-Some.sent (at (record c.loop-sent.work { queue = c.pop_front.new.self }) c.loop-sent.hints.now) (at c.hear_own.new.work c.hear_own.new.hints.now) c.in_ok-hear_own.ensures.ok in
-    let before = ap weight pops.0 in
-    omega arith
-
-pub loop-sent-preserved-in_ok-hear_own-6 : goal.loop-sent-preserved-in_ok-hear_own-6
-loop-sent-preserved-in_ok-hear_own-6 g c =
-    let pops = pops_by c.loop-sent.work (record c.loop-sent.work { queue = c.pop_front.new.self }) c.in-Some.sent c.pop_front.result refl c.pop_front.ensures.items c.in-Some.is in
-    let whole : g.R.Replica.is_whole c.hear_own.new.replica = search rules in
-    record {
-      along = along_more c.args.base.now g.R.Disk.Store.is_honest (g.R.Replica.durable c.args.replica.now) (at c.args.work.now c.args.hints.now.now) (at c.loop-sent.work c.loop-sent.hints.now) (at (record c.loop-sent.work { queue = c.pop_front.new.self }) c.loop-sent.hints.now) (at c.hear_own.new.work c.hear_own.new.hints.now) c.in-Some.sent c.loop-sent.invariant.along pops refl
-          (by_at c.args.base.now g.R.Disk.Store.is_honest (g.R.Replica.durable c.loop-sent.replica) (g.R.Replica.durable c.args.replica.now) c.in-Some.sent (at (record c.loop-sent.work { queue = c.pop_front.new.self }) c.loop-sent.hints.now) (at c.hear_own.new.work c.hear_own.new.hints.now) (λ honest. (c.loop-sent.invariant.peeks.looked honest).same) c.in_ok-hear_own.ensures.ok);
-      peeks = peeks_on _ _ _ _ _ _ _ c.args.replica.now c.loop-sent.replica c.hear_own.new.replica c.loop-sent.invariant.peeks c.hear_own.ensures.peeks;
-      whole = whole;
-      before = c.hear_own.ensures.before ∙ c.loop-sent.invariant.before;
-    }
-
-pub returns-in_err-hear_own-clause-cut : goal.returns-in_err-hear_own-clause-cut
-returns-in_err-hear_own-clause-cut g c = λ failed s matters cut.
+pub returns-in_err-heard-clause-cut : goal.returns-in_err-heard-clause-cut
+returns-in_err-heard-clause-cut g c = λ failed s matters cut.
     let e = err_from_is_err_and c.from_residual.result c.from_residual.ensures.1 in
-    let error : c.in_err-hear_own.field-0.0 ≡ call_error.Failed = cc (e.1, e.2, failed) in
+    let error : c.in_err-heard.field-0.0 ≡ call_error.Failed = cc (e.1, e.2, failed) in
     let pops = pops_by c.loop-sent.work (record c.loop-sent.work { queue = c.pop_front.new.self }) c.in-Some.sent c.pop_front.result refl c.pop_front.ensures.items c.in-Some.is in
-    subst (λ (w : Work). IsCut c.args.base.now s matters w) (sym (c.in_err-hear_own.ensures.same (ap (λ (x : CallError). Err x) error)))
+    subst (λ (w : Work). IsCut c.args.base.now s matters w) (sym (c.in_err-heard.ensures.same (ap (λ (x : CallError). Err x) error)))
     (popped_cuts c.args.base.now g.R.Disk.Store.is_honest (g.R.Replica.durable c.args.replica.now) (at c.args.work.now c.args.hints.now.now) (at c.loop-sent.work c.loop-sent.hints.now) (at (record c.loop-sent.work { queue = c.pop_front.new.self }) c.loop-sent.hints.now) c.in-Some.sent c.loop-sent.invariant.along pops s matters cut)
 
-pub returns-in_err-hear_own-clause-peeks : goal.returns-in_err-hear_own-clause-peeks
-returns-in_err-hear_own-clause-peeks g c = peeks_on _ _ _ _ _ _ _ c.args.replica.now c.loop-sent.replica c.hear_own.new.replica c.loop-sent.invariant.peeks c.hear_own.ensures.peeks
+pub returns-in_err-heard-clause-peeks : goal.returns-in_err-heard-clause-peeks
+returns-in_err-heard-clause-peeks g c = peeks_on _ _ _ _ _ _ _ c.args.replica.now c.loop-sent.replica c.hear_own-heard.new.replica c.loop-sent.invariant.peeks c.hear_own-heard.ensures.peeks
 
 pub returns-clause-ok : goal.returns-clause-ok
 returns-clause-ok g c =
     along_end c.args.base.now g.R.Disk.Store.is_honest (g.R.Replica.durable c.args.replica.now) (at c.args.work.now c.args.hints.now.now) (at c.loop-sent.work c.loop-sent.hints.now) (at (record c.loop-sent.work { queue = c.pop_front.new.self }) c.loop-sent.hints.now) c.loop-sent.invariant.along refl refl c.in_default.ensures.items c.in_default.ensures.rest
 
-pub returns-in_err-hear_own-clause-surely : goal.returns-in_err-hear_own-clause-surely
-returns-in_err-hear_own-clause-surely g c = λ failed all.
+pub returns-in_err-heard-clause-surely : goal.returns-in_err-heard-clause-surely
+returns-in_err-heard-clause-surely g c = λ failed all.
     let e = err_from_is_err_and c.from_residual.result c.from_residual.ensures.1 in
-    let error : c.in_err-hear_own.field-0.0 ≡ call_error.Failed = cc (e.1, e.2, failed) in
-    c.in_err-hear_own.ensures.surely (ap (λ (x : CallError). Err x) error) (c.loop-sent.invariant.peeks.spared all)
+    let error : c.in_err-heard.field-0.0 ≡ call_error.Failed = cc (e.1, e.2, failed) in
+    c.in_err-heard.ensures.surely (ap (λ (x : CallError). Err x) error) (c.loop-sent.invariant.peeks.spared all)

@@ -5,7 +5,9 @@ use Rattle.partition_content.specs.Slots.{held_in, IsCleared}
 use Rattle.partition_content.proofs.clearing.clear.Goals as goal
 
 pub returns-then-outranks-clause-cleared : goal.returns-then-outranks-clause-cleared
-returns-then-outranks-clause-cleared c = subst (λ (o : Option Arrived). IsCleared c.args.x.now (held_in o) None) (sym c.in-Some.is) (inl (c.outranks.ensures.0 c.if-outranks.true, refl))
+returns-then-outranks-clause-cleared c =
+    subst (λ (o : Option Arrived). IsCleared c.args.x.now (held_in c.args.slot.now) (held_in o)) (sym c.take.ensures.after)
+    (subst (λ (o : Option Arrived). IsCleared c.args.x.now (held_in o) None) (sym c.in-Some.is) (inl (c.outranks.ensures.0 c.if-outranks.true, refl)))
 
 pub returns-else-outranks-clause-cleared : goal.returns-else-outranks-clause-cleared
 returns-else-outranks-clause-cleared c =

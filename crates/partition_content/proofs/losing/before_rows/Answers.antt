@@ -9,5 +9,5 @@ use Rattle.partition_content.proofs.losing.before_rows.Goals as goal
 
 pub returns : goal.returns
 returns c =
-    ap helds_in (c.range.ensures.between (search rules)) ∙ helds-filter (λ s. range_contains spot_cmp Unbounded (Excluded c.first_row-rows.result) s) c.args.slots.now.entries
+    ap helds_in (c.range-walk.ensures.between (search rules)) ∙ helds-filter (λ s. range_contains spot_cmp Unbounded (Excluded c.first_row-rows.result) s) c.args.slots.now.entries
     ∙ ap (λ (s : Spot). entries_between spot_cmp Unbounded (Excluded s) (helds_in c.args.slots.now.entries)) c.first_row-rows.ensures

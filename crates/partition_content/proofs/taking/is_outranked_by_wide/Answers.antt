@@ -1,21 +1,16 @@
-use Rattle.std.proofs.Common.{◌≡◌, ◌∙◌, ap, subst, rules, List, Contains}
-use Rattle.std.specs.BTreeMap.Range.{entries_between, range_contains}
+use Rattle.std.proofs.Common.{◌≡◌, ◌∙◌, ap, subst, List, Contains}
 use Rattle.std.specs.List.Sorted.{IsStrictlySortedBy}
-use Rattle.std.specs.declared.ops.Bound.TheVariants.{Excluded, Unbounded}
 use Rattle.partition_content.specs.declared.spots.Spot.{Spot}
 use Rattle.partition_content.specs.Spots.{spot_cmp}
 use Rattle.partition_content.specs.Reading.{wide_of}
 use Rattle.partition_content.proofs.ReachLemmas.{passed_start, among_start, passed_more, passed_over, passed_all, among_less, none_wide}
 use Rattle.partition_content.specs.Slots.{helds_in, helds_of, held_in}
-use Rattle.partition_content.proofs.HeldLemmas.{helds-keys, helds-filter}
+use Rattle.partition_content.proofs.HeldLemmas.{helds-keys}
 use Rattle.partition_content.proofs.taking.is_outranked_by_wide.Goals as goal
 
 pub loop-slot-init : goal.loop-slot-init
 loop-slot-init c =
-    let e : (helds_in c.into_iter-slot-iterator.result) ≡ wide_of (helds_in c.args.slots.now.entries) =
-    ap helds_in (c.into_iter-slot-iterator.ensures.into_iter_gives ∙ c.range-slot-items.ensures.between (search rules))
-    ∙ helds-filter (λ s. range_contains spot_cmp Unbounded (Excluded c.first_row-rows.result) s) c.args.slots.now.entries
-    ∙ ap (λ (s : Spot). entries_between spot_cmp Unbounded (Excluded s) (helds_in c.args.slots.now.entries)) c.first_row-rows.ensures in
+    let e : helds_in c.into_iter-slot-iterator.result ≡ wide_of (helds_in c.args.slots.now.entries) = ap helds_in c.into_iter-slot-iterator.ensures.into_iter_gives ∙ c.before_rows-slot-items.ensures in
     record { passed = passed_start c.args.x.now (helds_in c.args.slots.now.entries) (helds_in c.into_iter-slot-iterator.result) e; among = among_start (helds_in c.args.slots.now.entries) (helds_in c.into_iter-slot-iterator.result) e }
 
 pub loop-slot-preserved : goal.loop-slot-preserved

@@ -1,6 +1,6 @@
 use Rattle.std.proofs.Common.{sym}
 use Rattle.std.proofs.lemmas.Result.{IfOk-weaker}
-use Rattle.read_coord.proofs.Hearing.{reply_waits, reply_answers}
+use Rattle.read_coord.proofs.Hearing.{reply_waits, reply_decides}
 use Rattle.read_coord.proofs.ReadCoord.hear.Goals as goal
 
 pub returns-then-waits-clause-ok : goal.returns-then-waits-clause-ok
@@ -10,7 +10,7 @@ returns-then-waits-clause-ok c =
 
 pub returns-clause-ok : goal.returns-clause-ok
 returns-clause-ok c =
-    IfOk-weaker c.answer.result _ _
-    (λ turn answers. reply_answers c.args.setting.now c.args.request c.args.from c.args.content c.args.self.now _ turn c.args.replicas.now
-    c.requires (sym c.if-is_stray.ensures) (sym c.if-waits.ensures) answers)
-    c.answer.ensures
+    IfOk-weaker c.decide.result _ _
+    (λ turn decides. reply_decides c.args.setting.now c.args.request c.args.from c.args.content c.args.self.now _ turn c.args.replicas.now
+    c.requires (sym c.if-is_stray.ensures) (sym c.if-waits.ensures) decides)
+    c.decide.ensures.ok

@@ -3,7 +3,7 @@ use Rattle.cluster_model.specs.State.{ClusterState, KeepsOn}
 use Rattle.cluster_model.specs.Mails.{post_of}
 use Rattle.cluster_model.specs.Sites.{keeper}
 use Rattle.cluster_model.specs.Holding.{entries_in, first_of, state_of}
-use Rattle.cluster_model.proofs.Begun.{run_reached, reached_right, reached_causes}
+use Rattle.cluster_model.proofs.Begun.{run_reached, reached_right, reached_forward, reached_causes}
 use Rattle.cluster_model.proofs.Keeping.{either_keeps}
 use Rattle.cluster_model.proofs.cluster.Cluster.step.Goals as goal
 
@@ -27,6 +27,13 @@ returns-clause-right g c =
     let p = c.self.inside.parts in
     let q = c.take_event.new.self in
     reached_right (state_of m q) (run_reached m q.setting (first_of m q.begun.items) q.seats.items (post_of q.annals.mail) (entries_in q) c.take_event.ensures.holds.run)
+
+pub returns-clause-forward : goal.returns-clause-forward
+returns-clause-forward g c =
+    let m = keeper g.R.Replica.stands_for g.R.Replica.durable g.R.Replica.disk g.R.Replica.is_whole in
+    let p = c.self.inside.parts in
+    let q = c.take_event.new.self in
+    reached_forward (state_of m q) (run_reached m q.setting (first_of m q.begun.items) q.seats.items (post_of q.annals.mail) (entries_in q) c.take_event.ensures.holds.run)
 
 pub returns-clause-causes : goal.returns-clause-causes
 returns-clause-causes g c =

@@ -4,7 +4,6 @@ use Rattle.gate_log.specs.declared.error.GateError.{GateError}
 use Rattle.commit_log.specs.declared.error.LogError.{LogError}
 use Rattle.commit_log.specs.declared.error.LogError.TheVariants.{Failed, Damaged}
 use Rattle.commit_log.specs.Errors.{log_error}
-use Rattle.commit_log.proofs.Loading.{broken_file}
 use Rattle.commit_log.proofs.Refusals.{not_failed}
 use Rattle.commit_log.proofs.log.CommitLog.load.Goals as goal
 
@@ -23,8 +22,7 @@ returns-in_err-entries-clause-damaged g c p is honest =
     let e = err_from_is_err_and c.from_residual-in_err-entries.result c.from_residual-in_err-entries.ensures.1 in
     let error : c.in_err-entries.field-0.0 ≡ Damaged p = cc (e.1, e.2, is) in
     let file = (g.S.Store.disk c.args.store.now).seen c.args.f in
-    broken_file c.in_ok-reading.reading.entries c.in_ok-reading.reading.damage file p (c.in_ok-reading.ensures.found honest)
-    (c.in_err-entries.ensures.damaged p (ap (λ (x : LogError). Err x) error))
+    c.in_err-entries.ensures.damaged file (c.in_ok-reading.ensures.found honest) p (ap (λ (x : LogError). Err x) error)
 
 pub returns-in_err-gates-clause-surely : goal.returns-in_err-gates-clause-surely
 returns-in_err-gates-clause-surely g c m n more spares =

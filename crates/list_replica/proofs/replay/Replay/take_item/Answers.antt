@@ -30,7 +30,7 @@ returns-in-Ceiling-clause-shows c =
 
 pub returns-in-Purge-clause-shows : goal.returns-in-Purge-clause-shows
 returns-in-Purge-clause-shows c =
-    on_ok_weaker c.let_go.result (λ gone. subst (λ (i : LogItem). ShowsItem i c.args.self.now (record c.args.self.now { contents = c.let_go.new.loads })) (sym c.in-Purge.is) (purge_shows c.args.self.now c.let_go.new.loads c.in-Purge.change gone c.let_go.ensures.ordered)) c.let_go.ensures.gone
+    on_ok_weaker c.let_go-gone.result (λ gone. subst (λ (i : LogItem). ShowsItem i c.args.self.now (record c.args.self.now { contents = c.let_go-gone.new.loads })) (sym c.in-Purge.is) (purge_shows c.args.self.now c.let_go-gone.new.loads c.in-Purge.change gone c.let_go-gone.ensures.ordered)) c.let_go-gone.ensures.gone
 
 pub returns-in-Paxos-clause-shows : goal.returns-in-Paxos-clause-shows
 returns-in-Paxos-clause-shows c = on_ok_weaker c.set_row.result (λ shows. subst (λ (i : LogItem). ShowsItem i c.args.self.now c.set_row.new.self) (sym c.in-Paxos.is) shows) c.set_row.ensures.shows

@@ -1,25 +1,10 @@
-use Rattle.std.proofs.Common.{◌<◌, ℕ, sym, subst, arith}
-use Rattle.std.specs.Prelude.{◌^◌}
+use Rattle.std.proofs.Common.{sym, subst}
 use Rattle.node_steps.specs.State.{OpenWrite}
 use Rattle.node_core.specs.declared.slot.Slot.{Slot}
 use Rattle.node_core.specs.Slots.{IsNew}
-use Rattle.node_core.proofs.LeftOpen.{begun_count, begun_fits, bit_is}
 use Rattle.node_core.proofs.Slots.{new_taken}
 use Rattle.node_core.proofs.base.Base.begin_write.Goals as goal
 
-pub overflow_add-self : goal.overflow_add-self
-overflow_add-self c =
-    let small =
-    begun_fits c.args.self.now.writes.entries c.in-Some.now c.from-waits.result c.args.self.now.unanswered c.requires.ordered.unanswered (subst (λ (n : ℕ). n < 2 ^ 63) c.len-most.ensures.len c.len-most.ensures.small)
-    (bit_is c.in-Some.now c.from-waits.result c.is_answered.result c.from-waits.ensures c.is_answered.ensures) in
-    omega arith
-
-pub returns-clause-ordered : goal.returns-clause-ordered
-returns-clause-ordered c = record {
-  writes = c.insert.ensures.ordered;
-  reads = c.requires.ordered.reads;
-  unanswered =
-      begun_count c.args.self.now.writes.entries c.insert.new.self.entries c.args.request c.in-Some.now c.from-waits.result c.args.self.now.unanswered c.requires.ordered.unanswered
-      (c.requires.slot (subst (λ (s : Slot OpenWrite). IsNew s) (sym (new_taken c.args.slot.now c.take_new.new.self c.take_new.result c.in-Some.now c.take_new.ensures c.in-Some.is)) tt)) c.in_ok-insert.ensures.entries
-      (bit_is c.in-Some.now c.from-waits.result c.is_answered.result c.from-waits.ensures c.is_answered.ensures);
-}
+pub insert_write-requires-clause-absent : goal.insert_write-requires-clause-absent
+insert_write-requires-clause-absent c =
+    c.requires.slot (subst (λ (s : Slot OpenWrite). IsNew s) (sym (new_taken c.args.slot.now c.take_new.new.self c.take_new.result c.in-Some.now c.take_new.ensures c.in-Some.is)) tt)

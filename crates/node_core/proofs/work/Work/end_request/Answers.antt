@@ -1,5 +1,5 @@
 use Rattle.std.proofs.Common.{sym}
-use Rattle.node_core.proofs.Passing.{open_counts, open_waits}
+use Rattle.node_core.proofs.DueMatters.{open_counts, open_waits}
 use Rattle.node_core.proofs.work.Work.end_request.Goals as goal
 
 pub end_write-requires-clause-waits : goal.end_write-requires-clause-waits

@@ -2,7 +2,7 @@ use Rattle.std.proofs.Common.{ℕ, ◌-◌, List, [], ◌∷◌, ◌++◌, refl,
 use Rattle.std.specs.Prelude.{if◌then◌else◌}
 use Rattle.changes.specs.declared.Mutation.{Mutation}
 use Rattle.node_core.specs.Hinting.{at, LeavesHints}
-use Rattle.node_core.proofs.Passing.{ended_as, less_none, less_one, write_ends}
+use Rattle.node_core.proofs.Timeouts.{ended_as, less_none, less_one, write_ends}
 use Rattle.node_core.proofs.work.Work.end_write.Goals.{then-not-is_answered, else-not-is_answered}
 use Rattle.node_core.proofs.work.Work.end_write.Goals as goal
 

@@ -43,13 +43,13 @@ returns-then-takes_on-clause-arrivals c =
 pub invariant_of-self-in_err-settle : goal.invariant_of-self-in_err-settle
 invariant_of-self-in_err-settle c = loaded_none c.settle.new.run.items c.settle.new.content c.settle.ensures.none
 
-pub invariant_of-self-in_err-reserve : goal.invariant_of-self-in_err-reserve
-invariant_of-self-in_err-reserve c = loaded_none c.settle.new.run.items c.reserve.new.self c.settle.ensures.none
-
 pub invariant_of-self-2 : goal.invariant_of-self-2
-invariant_of-self-2 c = loaded_none c.settle.new.run.items c.apply.new.self c.settle.ensures.none
+invariant_of-self-2 c = loaded_none c.settle.new.run.items c.take_in.new.content c.settle.ensures.none
 
 pub returns-clause-arrivals : goal.returns-clause-arrivals
 returns-clause-arrivals c =
-    subst (λ (l : List Arrived). ComeAt c.args.at l (c.settle.new.run.items ++ c.apply.new.self.stored)) (c.reserve.ensures.stored ∙ c.in_ok-settle.ensures.stored ∙ ap (λ (p : Partition). p.stored) c.self.view_is)
-    (subst (λ (l : List Arrived). ComeAt c.args.at c.reserve.new.self.stored (l ++ c.apply.new.self.stored)) (sym c.settle.ensures.none) c.apply.ensures.arrivals)
+    on_ok_weaker c.take_in.result
+    (λ come.
+    subst (λ (l : List Arrived). ComeAt c.args.at l (c.settle.new.run.items ++ c.take_in.new.content.stored)) (c.in_ok-settle.ensures.stored ∙ ap (λ (p : Partition). p.stored) c.self.view_is)
+    (subst (λ (l : List Arrived). ComeAt c.args.at c.settle.new.content.stored (l ++ c.take_in.new.content.stored)) (sym c.settle.ensures.none) come))
+    c.take_in.ensures.arrivals

@@ -1,4 +1,0 @@
-use Rattle.list_replica_bench.proofs.commit_all.Given as goal
-
-abbrev pub invariant-loop-at : goal.invariant-loop-at
-invariant-loop-at g l = g.R.Replica.is_whole l.replica

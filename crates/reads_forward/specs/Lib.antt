@@ -1,0 +1,2 @@
+pub mod ReadsForward
+pub mod Laws

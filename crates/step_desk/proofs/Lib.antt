@@ -1,0 +1,5 @@
+mod Plain
+mod Searching
+mod Asking
+mod Answering
+mod DeskLaws

@@ -1,0 +1,5 @@
+pub mod Tellings
+pub mod Outcomes
+pub mod Headings
+pub mod Desks
+pub mod Calls
