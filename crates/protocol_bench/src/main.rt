@@ -1,9 +1,10 @@
 //! What a connection reads and writes, measured: `protocol_bench BENCH [COUNT ..]`, by the benches `frames`, `bodies`,
-//! `statements` and `bindings`. With no words each of them writes its sample.
+//! `statements`, `bindings` and `conversation`. With no words each of them writes its sample.
 #![tactic(auto)]
 
 mod bindings;
 mod bodies;
+mod conversation;
 mod frames;
 mod statements;
 
@@ -13,8 +14,12 @@ use std::env;
 fn main(rt: HostRuntime) -> Result<()> {
     let words: Vec<String> = env::args(&rt)?.collect(rt.alloc())?;
     match words.as_slice() {
+        [_, bench, rest @ ..] if bench.as_str() == "conversation" => conversation::run(&rt, rest),
         [_, bench, rest @ ..] => run(&rt, bench.as_str(), rest),
-        _ => samples(&rt),
+        _ => {
+            samples(&rt)?;
+            conversation::run(&rt, &[])
+        }
     }
 }
 
@@ -24,7 +29,7 @@ fn run(rt: &HostRuntime, bench: &str, words: &[String]) -> Result<()> {
         "bodies" => bodies::run(rt, words)?,
         "statements" => statements::run(rt, words)?,
         "bindings" => bindings::run(rt, words)?,
-        _ => bail!("frames, bodies, statements, bindings, or no words"),
+        _ => bail!("frames, bodies, statements, bindings, conversation, or no words"),
     }
     Ok(())
 }

@@ -1,0 +1,44 @@
+//! Batches.
+
+use crate::rows::requests;
+use crate::talks::in_pieces;
+use serve_loop::Served;
+use std::test::Fail;
+
+/// Of changes with one timestamp a deletion beats a value, and the greater value another one.
+const BATCHES: &str = "01 0001 s`CQL_VERSION` s`3.0.0` => 02
+07 l`USE ks` 0001 00 => 08 00000003 s`ks`
+09 l`DELETE FROM t WHERE k = ?` => 08 00000004 k`DELETE FROM t WHERE k = ?` 00000001 00000001 00000001 0000 s`ks` s`t` s`k` 0009 00000004 00000000
+07 l`INSERT INTO t (k, v) VALUES (1, 'a')` 0001 00 => 08 00000001
+0D 00 0002 01 k`DELETE FROM t WHERE k = ?` 0001 00000004 00000001 00 l`UPDATE t SET v = ? WHERE k = 1 ; ` 0001 l`x` 0004 00 => 08 00000001
+07 l`SELECT v FROM t WHERE k = 1` 0001 00 => 08 00000002 00000001 00000001 s`ks` s`t` s`v` 000D 00000000
+0D 01 0003 00 l`INSERT INTO t (k, v) VALUES (1, 'b')` 0000 00 l`INSERT INTO t (k, v) VALUES (1, 'd')` 0000 00 l`INSERT INTO t (k, v) VALUES (1, 'c')` 0000 0001 20 0000000000000100 => 08 00000001
+07 l`SELECT v FROM t WHERE k = 1` 0001 00 => 08 00000002 00000001 00000001 s`ks` s`t` s`v` 000D 00000001 l`d`
+0D 01 0002 00 l`INSERT INTO t (k, v) VALUES (1, 'e')` 0000 00 l`UPDATE t USING TIMESTAMP 257 SET v = 'f' WHERE k = 1` 0000 0001 20 0000000000000102 => 08 00000001
+07 l`SELECT v FROM t WHERE k = 1` 0001 00 => 08 00000002 00000001 00000001 s`ks` s`t` s`v` 000D 00000001 l`e`
+07 l`BEGIN BATCH INSERT INTO t (k, v) VALUES (1, 'g'); UPDATE t SET v = 'h' WHERE k = 1 APPLY BATCH` 0001 20 0000000000000103 => 08 00000001
+07 l`SELECT v FROM t WHERE k = 1` 0001 00 => 08 00000002 00000001 00000001 s`ks` s`t` s`v` 000D 00000001 l`h`
+0D 00 0001 01 s`ks` 0000 0004 00 => 00 00002500 s`unprepared` s`ks`
+0D 00 0002 00 l`USE other` 0000 00 l`?` 0000 0004 00 => 00 00002000 s`syntax at 0`
+0D 00 0002 00 l`INSERT INTO t (k, v) VALUES (1, 'i')` 0000 01 s`none` 0000 0004 20 0000000000000200 => 00 00002500 s`unprepared` s`none`
+0D 00 0001 00 l`USE other` 0000 0004 00 => 00 00002200 s`NotSupported`
+0D 00 0001 00 l`SELECT v FROM t WHERE k = 1` 0000 0004 00 => 00 00002200 s`NotSupported`
+0D 01 0000 0004 00 => 00 00002200 s`NotSupported`
+0D 01 0002 00 l`INSERT INTO t (k, v) VALUES (1, 'j')` 0000 00 l`INSERT INTO t (k, v) VALUES (2, 'j')` 0000 0001 20 0000000000000200 => 00 00002200 s`NotSupported`
+0D 01 0001 00 l`UPDATE t SET v = 'k' WHERE k = 1 IF EXISTS` 0000 0001 00 => 00 00002200 s`NotSupported`
+0D 01 0001 00 l`INSERT INTO t (k, v) VALUES (1, ?)` 0000 0001 20 0000000000000200 => 00 00002200 s`ValueCount`
+0D 01 0001 00 l`INSERT INTO t (k, v) VALUES (1, 'l')` 0000 0000 20 0000000000000200 => 00 00002200 s`Level`
+0D 01 0001 00 l`INSERT INTO t (k, v) VALUES (1, 'm')` 0000 0008 20 0000000000000200 => 00 00002200 s`SerialWrite`
+0D 01 0001 00 l`INSERT INTO t (k, v) VALUES (1, 'n')` 0000 0001 30 0001 0000000000000200 => 00 00002200 s`Level`
+0D 01 0001 00 l`INSERT INTO t (k, v) VALUES (1, 'o')` 0000 0002 20 0000000000000200 => 00 00001000 s`unavailable` 0002 00000002 00000001
+07 l`SELECT v FROM t WHERE k = 1` 0001 00 => 08 00000002 00000001 00000001 s`ks` s`t` s`v` 000D 00000001 l`h`
+0D 00 0001 01 k`DELETE FROM t WHERE k = ?` 0001 00000004 00000001 0001 30 0008 0000000000000200 => 08 00000001
+07 l`SELECT v FROM t WHERE k = 1` 0001 00 => 08 00000002 00000001 00000001 s`ks` s`t` s`v` 000D 00000000";
+
+#[test]
+fn batches_in_pieces(rt: HostRuntime) -> Result<(), Fail> {
+    let talk = requests(rt.alloc(), BATCHES)?;
+    let went = in_pieces(&rt, rt.alloc(), &talk, Served::Ended)?;
+    assert_eq!(rt; went, None);
+    Ok(())
+}
