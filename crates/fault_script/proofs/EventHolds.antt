@@ -12,7 +12,8 @@ use Rattle.fault_script.specs.declared.script.EventLine.TheVariants as says
 use Rattle.cs_store.specs.declared.mem_file.Outcome.{Outcome}
 use Rattle.fault_script.specs.declared.script.Fault.{Fault}
 use Rattle.fault_script.specs.declared.script.Fault.TheVariants as fault
-use Rattle.fault_script.specs.Lines.{result_map, put_line, put_of, get_line, get_of, message_line, place_of, settle_line, named_node, pair_of, named_pair, node_line, pair_line, clock_at, peers_of, named_peers, mark_of, mark_line, up_of, crash_of, crash_line, stop_of, stop_line, fail_at, node_event, outcome_of, word_line, event_line, cql_of, cql_behind, cql_from, event_of_words, event_of, event_at, words_of, behind, first_word, node_of, level_of, long_of, number_within, number_value, is_number, is_signed_number}
+use Rattle.script_words.specs.Words.{up_of, outcome_of, words_of, behind, first_word, node_of, level_of, long_of, number_within, number_value, is_number, is_signed_number}
+use Rattle.fault_script.specs.Lines.{result_map, put_line, put_of, get_line, get_of, message_line, place_of, settle_line, named_node, pair_of, named_pair, node_line, pair_line, clock_at, peers_of, named_peers, mark_of, mark_line, crash_of, crash_line, stop_of, stop_line, fail_at, node_event, word_line, event_line, cql_of, cql_behind, cql_from, event_of_words, event_of, event_at}
 use Rattle.fault_script.specs.Script.{IsSaid}
 use Rattle.fault_script.specs.Laws.{IsAtNodes, IsBetweenNodes, ArePeers}
 use Rattle.fault_script.proofs.Holding.{either_holds, some_where, understood_where, result_map_holds}

@@ -3,9 +3,10 @@ use Rattle.std.proofs.Common.{◌≡◌, ◌⊎◌, inl, inr, ℕ, ◌<◌, List
 use Rattle.std.proofs.lemmas.Bool.{and_from}
 use Rattle.cs_base.specs.declared.level.Level.{Level}
 use Rattle.fault_script.specs.declared.script.Fault.TheVariants as fault
-use Rattle.fault_script.specs.Lines.{put_line, put_of, understood, node_of, level_of, is_number, is_signed_number, is_long_word, long_of, signed_value}
-use Rattle.fault_script.specs.Words.{texts_of}
-use Rattle.fault_script.proofs.WordLaws.{word_at}
+use Rattle.script_words.specs.Words.{node_of, level_of, is_number, is_signed_number, is_long_word, long_of, signed_value}
+use Rattle.fault_script.specs.Lines.{put_line, put_of, understood}
+use Rattle.script_words.specs.Texts.{texts_of}
+use Rattle.script_words.proofs.WordLaws.{word_at}
 
 pub put_of_other_length : (nodes : ℕ) (ws : List (Bor (List ℕ))) → (length ws < 6) ⊎ (6 < length ws) → put_line nodes (texts_of ws) ≡ Err fault.Line
 put_of_other_length nodes [] h = refl

@@ -1,13 +1,8 @@
 pub mod Apart
 pub mod EventHolds
 pub mod EventWords
-pub mod FirstLine
 pub mod HeadHolds
 pub mod Holding
-pub mod NumberLaws
 pub mod OneWay
 pub mod Readers
 pub mod ScriptHolds
-pub mod Trimming
-pub mod WordLaws
-pub mod WordSplits

@@ -15,7 +15,8 @@ use Rattle.fault_script.specs.declared.script.HeadLine.TheVariants as says
 use Rattle.fault_script.specs.declared.reader.Stage.{Stage}
 use Rattle.fault_script.specs.declared.reader.Stage.TheVariants as stage
 use Rattle.fault_script.specs.declared.reader.Reader.{Reader}
-use Rattle.fault_script.specs.Lines.{head_line, event_at, is_skipped, lines_of}
+use Rattle.script_words.specs.Words.{is_skipped, lines_of}
+use Rattle.fault_script.specs.Lines.{head_line, event_at}
 use Rattle.fault_script.specs.Script.{IsOneStatement, IsRefusedAt, offset_of, schema_of, with_statement, with_event, cql_event, opened, counted, first_refusal, HeadGoes, HeadStops, EventGoes, EventStops, IsRefusedEvent, LineGoes, LineStops, GoesBy, StopsBy, Goes, Reads, IsReadBy, IsRead, first_reader, longest_script}
 
 -- the laws of statements

@@ -3,7 +3,7 @@ use Rattle.std.proofs.Common.{◌≡◌, ℕ, ◌≤◌, Bool, true, false, List
 use Rattle.std.specs.Prelude.{OnOk}
 use Rattle.std.proofs.lemmas.Bool.{le-ltb}
 use Rattle.fault_script.specs.declared.reader.Reader.{Reader}
-use Rattle.fault_script.specs.Lines.{lines_of}
+use Rattle.script_words.specs.Words.{lines_of}
 use Rattle.fault_script.specs.Script.{Goes, Stops, Reads, IsRead, IsReadBy, first_reader, longest_script}
 use Rattle.fault_script.specs.declared.script.Script.{Script}
 use Rattle.fault_script.specs.declared.script.ScriptError.{ScriptError}

@@ -2,5 +2,4 @@ pub mod Lines
 pub mod Laws
 pub mod Reads
 pub mod Script
-pub mod Words
 pub mod Written

@@ -26,7 +26,8 @@ use Rattle.fault_script.specs.declared.reader.Opening.{Opening}
 use Rattle.fault_script.specs.declared.reader.Stage.{Stage}
 use Rattle.fault_script.specs.declared.reader.Stage.TheVariants as stage
 use Rattle.fault_script.specs.declared.reader.Reader.{Reader}
-use Rattle.fault_script.specs.Lines.{lines_of, is_skipped, head_line, event_at}
+use Rattle.script_words.specs.Words.{lines_of, is_skipped}
+use Rattle.fault_script.specs.Lines.{head_line, event_at}
 use Rattle.fault_script.specs.Written.{WrittenSchema, no_statements, with_line, line_of}
 
 -- ---- statements

@@ -2,19 +2,20 @@
 
 ghost use Rattle.std.specs.Prelude.{◌≡◌, ◌≤◌, ◌<◌, ◌&&◌, ◌∷◌, [], IfOk, codes, length};
 ghost use Rattle.std.specs.Str.{bytes_eq};
-ghost use Rattle.fault_script.specs.Lines.{is_number as is_number_word, is_signed_number as is_signed_word, put_line as put_line_of, get_line as get_line_of, message_line as message_line_of, settle_line as settle_line_of, word_line as word_line_of, event_line as event_line_of, cql_line as cql_line_of, event_at as event_at_of};
+ghost use Rattle.script_words.specs.Words.{is_number as is_number_word, is_signed_number as is_signed_word};
+ghost use Rattle.fault_script.specs.Lines.{put_line as put_line_of, get_line as get_line_of, message_line as message_line_of, settle_line as settle_line_of, word_line as word_line_of, event_line as event_line_of, cql_line as cql_line_of, event_at as event_at_of};
 ghost use Rattle.fault_script.specs.Lines.{named_node as named_node_of, named_pair as named_pair_of, node_line as node_line_of, pair_line as pair_line_of, clock_line as clock_line_of, named_peers as named_peers_of, mark_line as mark_line_of, crash_line as crash_line_of, stop_line as stop_line_of, fail_line as fail_line_of, node_event as node_event_of};
-ghost use Rattle.fault_script.specs.Words.{texts_of};
+ghost use Rattle.script_words.specs.Texts.{texts_of};
 ghost use Rattle.fault_script.specs.Reads.{LineGives};
 
-use crate::lines::{behind, first_word, words};
-use crate::numbers::{
-    is_number, is_signed_number, level_of, long_value, node_of, number_within, outcome_of, up_of,
-};
 use crate::script::{
     EventLine, Fault, GetRequest, LineError, MessagePlace, PutRequest, ScriptEvent,
 };
 use cs_base::{Micros, NodeId, Text};
+use script_words::{
+    behind, first_word, is_number, is_signed_number, level_of, long_value, node_of, number_within,
+    outcome_of, up_of, words,
+};
 use std::alloc::{AllocError, Global};
 
 /// The most times that a line `settle` delivers a message.

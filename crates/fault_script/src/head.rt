@@ -3,14 +3,14 @@
 ghost use Rattle.std.specs.Prelude.{◌≡◌, ◌≤◌, Bool, true, false, ◌&&◌, ◌<◌, codes, map, length, IsTrue, IfOk, IfErr, OnErr, MatchOption, MatchResult};
 ghost use Rattle.std.specs.List.{list_all};
 ghost use Rattle.std.specs.Str.{bytes_eq};
-ghost use Rattle.fault_script.specs.Lines.{is_number as is_number_word, is_signed_number as is_signed_word, is_long_word, signed_value, are_apart, are_tokens as are_token_words, version_line as version_line_of, ring_line as ring_line_of, factor_line as factor_line_of, first_settings as first_settings_of, is_first as is_first_word, grace_line as grace_line_of, expiry_line as expiry_line_of, run_line as run_line_of, later_line as later_line_of, option_line as option_line_of, head_words as head_words_of, statement_at as statement_at_of, head_line as head_line_of};
-ghost use Rattle.fault_script.specs.Words.{texts_of};
+ghost use Rattle.script_words.specs.Words.{is_number as is_number_word, is_signed_number as is_signed_word, is_long_word, signed_value};
+ghost use Rattle.fault_script.specs.Lines.{are_apart, are_tokens as are_token_words, version_line as version_line_of, ring_line as ring_line_of, factor_line as factor_line_of, first_settings as first_settings_of, is_first as is_first_word, grace_line as grace_line_of, expiry_line as expiry_line_of, run_line as run_line_of, later_line as later_line_of, option_line as option_line_of, head_words as head_words_of, statement_at as statement_at_of, head_line as head_line_of};
+ghost use Rattle.script_words.specs.Texts.{texts_of};
 ghost use Rattle.fault_script.specs.Reads.{LineGives};
 
-use crate::lines::{behind, words};
-use crate::numbers::{is_number, is_signed_number, long_value, number_within};
 use crate::script::{Fault, HeadLine, HeadStage, LineError, Settings};
 use cs_base::Text;
+use script_words::{behind, is_number, is_signed_number, long_value, number_within, words};
 use std::alloc::{AllocError, Global};
 use token_ring::{MOST_NODES, Ring};
 

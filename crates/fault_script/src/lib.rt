@@ -15,8 +15,6 @@ mod error;
 mod events;
 mod head;
 mod laws;
-mod lines;
-mod numbers;
 mod reader;
 mod schema_lines;
 mod script;

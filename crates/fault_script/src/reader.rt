@@ -7,7 +7,6 @@ ghost use Rattle.fault_script.specs.Reads.{Fails, IsReadAs};
 use crate::error::ParseError;
 use crate::events::event_at;
 use crate::head::head_line;
-use crate::lines::{first_line, is_skipped};
 use crate::schema_lines::SchemaLines;
 use crate::script::{
     CqlRequest, EventLine, Fault, HeadLine, HeadStage, LineError, Script, ScriptError, ScriptEvent,
@@ -16,6 +15,7 @@ use crate::script::{
 use crate::statements::{StatementError, line_statement, read_statement};
 use cs_base::{Items, Text};
 use schema_book::Schema;
+use script_words::{first_line, is_skipped};
 use std::alloc::Global;
 
 /// The longest script, in bytes: 64 MiB.

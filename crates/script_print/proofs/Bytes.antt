@@ -8,7 +8,7 @@ use Rattle.std.proofs.lemmas.Bool.{and_from, and_parts, eqb-true, eq-eqb, ltb-tr
 use Rattle.std.proofs.lemmas.List.Elements.{All-from_recursion}
 use Rattle.std.proofs.lemmas.List.Folds.{list_all-append}
 use Rattle.std.proofs.lemmas.Str.{IsUtf8-nil, IsUtf8-drop, IsUtf8-from_ascii, IsUtf8-from_is_utf8, utf8_valid_len-IsUtf8, IsCharBoundary-after_ascii}
-use Rattle.fault_script.specs.Lines.{is_text, is_space, without_spaces}
+use Rattle.script_words.specs.Words.{is_text, is_space, without_spaces}
 
 -- ---- bytes that a text lacks
 

@@ -20,7 +20,8 @@ use Rattle.fault_script.specs.declared.script.CqlRequest.{CqlRequest}
 use Rattle.fault_script.specs.declared.script.MessagePlace.{MessagePlace}
 use Rattle.fault_script.specs.declared.script.Fault.TheVariants as fault
 use Rattle.fault_script.specs.Lines as lines
-use Rattle.fault_script.specs.Lines.{understood, result_map, event_of_words, event_at, event_line, put_of, get_of, place_of, named_node, pair_of, named_pair, clock_at, peers_of, named_peers, mark_of, up_of, crash_of, stop_of, fail_at, outcome_of, cql_of, cql_from, cql_behind, words_of, behind, first_word, node_of, level_of, long_of, number_within, is_number, is_signed_number, is_long, is_long_word, signed_value, is_text, is_space, is_skipped, without_spaces}
+use Rattle.script_words.specs.Words.{up_of, outcome_of, words_of, behind, first_word, node_of, level_of, long_of, number_within, is_number, is_signed_number, is_long, is_long_word, signed_value, is_text, is_space, is_skipped, without_spaces}
+use Rattle.fault_script.specs.Lines.{understood, result_map, event_of_words, event_at, event_line, put_of, get_of, place_of, named_node, pair_of, named_pair, clock_at, peers_of, named_peers, mark_of, crash_of, stop_of, fail_at, cql_of, cql_from, cql_behind}
 use Rattle.script_print.specs.Printed.{level_name, outcome_name, up_name, line_of_words, put_line, get_line, cql_line, message_line, number_line, pair_line, mark_line, crash_line, stop_line}
 use Rattle.script_print.specs.Printed as printed
 use Rattle.script_print.proofs.Bytes.{lacks, lacks_both, ascii_is_utf8, utf8_is_text}

@@ -19,7 +19,8 @@ use Rattle.fault_script.specs.declared.script.MessagePlace.{MessagePlace}
 use Rattle.cs_store.specs.declared.mem_file.Outcome.{Outcome}
 use Rattle.fault_script.specs.declared.script.Fault.{Fault}
 use Rattle.fault_script.specs.declared.script.Fault.TheVariants as fault
-use Rattle.fault_script.specs.Lines.{put_line, put_of, get_line, get_of, message_line, place_of, settle_line, named_node, pair_of, named_pair, node_line, pair_line, clock_at, peers_of, named_peers, mark_of, mark_line, up_of, crash_of, crash_line, stop_of, stop_line, fail_at, node_event, outcome_of, event_line, cql_of, cql_behind, cql_from, event_of_words, event_of, event_at, words_of, behind, first_word, node_of, level_of, long_of, number_within, is_number, is_signed_number, is_long, is_long_word, signed_value, is_text, is_space, without_spaces}
+use Rattle.script_words.specs.Words.{up_of, outcome_of, words_of, behind, first_word, node_of, level_of, long_of, number_within, is_number, is_signed_number, is_long, is_long_word, signed_value, is_text, is_space, without_spaces}
+use Rattle.fault_script.specs.Lines.{put_line, put_of, get_line, get_of, message_line, place_of, settle_line, named_node, pair_of, named_pair, node_line, pair_line, clock_at, peers_of, named_peers, mark_of, mark_line, crash_of, crash_line, stop_of, stop_line, fail_at, node_event, event_line, cql_of, cql_behind, cql_from, event_of_words, event_of, event_at}
 use Rattle.script_print.proofs.Holding.{some_from, either_holds, some_where, understood_where, option_map_holds, result_map_holds}
 use Rattle.script_print.proofs.Bytes.{lacks, lacks_parts, lacks_without_spaces, text_is_utf8, utf8_without_spaces, without_spaces_again}
 use Rattle.script_print.proofs.LineWords.{IsWord, AreWords, words_are_words}

@@ -13,7 +13,8 @@ use Rattle.fault_script.specs.declared.script.HeadLine.TheVariants as head
 use Rattle.fault_script.specs.declared.script.Settings.{Settings}
 use Rattle.fault_script.specs.declared.script.Fault.TheVariants as fault
 use Rattle.fault_script.specs.Lines as lines
-use Rattle.fault_script.specs.Lines.{ring_of, with_factor, with_grace, with_expiry, head_words, head_of_words, head_of, head_line, statement_at, words_of, behind, result_map, understood, are_apart, are_tokens, tokens_of, is_long, is_long_word, signed_value, is_signed_number, is_number, number_within, is_text, is_skipped, without_spaces}
+use Rattle.script_words.specs.Words.{words_of, behind, is_long, is_long_word, signed_value, is_signed_number, is_number, number_within, is_text, is_skipped, without_spaces}
+use Rattle.fault_script.specs.Lines.{ring_of, with_factor, with_grace, with_expiry, head_words, head_of_words, head_of, head_line, statement_at, result_map, understood, are_apart, are_tokens, tokens_of}
 use Rattle.script_print.specs.Printed.{number_line, ring_line, schema_line}
 use Rattle.script_print.proofs.Bytes.{lacks, utf8_is_text}
 use Rattle.script_print.proofs.LineWords.{IsWord, AreWords, words_back, line_is_inline}

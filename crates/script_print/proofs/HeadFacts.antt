@@ -14,7 +14,8 @@ use Rattle.fault_script.specs.declared.script.HeadLine.TheVariants as head
 use Rattle.fault_script.specs.declared.script.Settings.{Settings}
 use Rattle.fault_script.specs.declared.script.Fault.{Fault}
 use Rattle.fault_script.specs.declared.script.Fault.TheVariants as fault
-use Rattle.fault_script.specs.Lines.{version_line, ring_line, ring_of, factor_line, first_settings, with_factor, is_first, with_grace, grace_line, with_expiry, expiry_line, run_line, later_line, option_line, head_words, head_of_words, statement_at, head_of, head_line, words_of, behind, understood, are_apart, are_tokens, tokens_of, is_long, is_long_word, signed_value, is_signed_number, is_number, number_within}
+use Rattle.script_words.specs.Words.{words_of, behind, is_long, is_long_word, signed_value, is_signed_number, is_number, number_within}
+use Rattle.fault_script.specs.Lines.{version_line, ring_line, ring_of, factor_line, first_settings, with_factor, is_first, with_grace, grace_line, with_expiry, expiry_line, run_line, later_line, option_line, head_words, head_of_words, statement_at, head_of, head_line, understood, are_apart, are_tokens, tokens_of}
 use Rattle.script_print.proofs.Holding.{either_holds, some_where, understood_where, result_map_holds}
 use Rattle.script_print.proofs.Bytes.{lacks}
 use Rattle.script_print.proofs.NumberWords.{IsWithin}

@@ -7,7 +7,7 @@ use Rattle.std.proofs.lemmas.List.{get_or-append_right}
 use Rattle.std.proofs.lemmas.List.Sums.{fails_before_first, passes_at_first}
 use Rattle.std.proofs.lemmas.List.Splits.{slice_split_none, slice_split_at, slice_split_first}
 use Rattle.std.proofs.lemmas.Str.{IsUtf8-append, IsUtf8-take, IsUtf8-drop, IsCharBoundary-before_ascii, IsCharBoundary-after_ascii}
-use Rattle.fault_script.specs.Lines.{is_text, is_space, is_well_formed, words_of}
+use Rattle.script_words.specs.Words.{is_text, is_space, is_well_formed, words_of}
 use Rattle.script_print.specs.Printed.{spaced, line_of_words}
 use Rattle.script_print.proofs.Bytes.{lacks, lacks_both, lacks_all, text_is_utf8, utf8_is_text, ascii_is_utf8}
 

@@ -11,7 +11,7 @@ use Rattle.std.proofs.lemmas.Fmt.{digits_decimal, digits_value-decimal, decimal_
 use Rattle.std.proofs.lemmas.Str.Parse.{IsNumeralModel, numerals_by_value, not_in_digits}
 use Rattle.cs_base.specs.declared.level.Level.{Level}
 use Rattle.cs_base.specs.declared.level.Level.TheVariants as level
-use Rattle.fault_script.specs.Lines.{is_number, number_value, number_within, within, is_signed_number, signed_value, is_long, level_of}
+use Rattle.script_words.specs.Words.{is_number, number_value, number_within, within, is_signed_number, signed_value, is_long, level_of}
 use Rattle.script_print.specs.Printed.{level_name}
 use Rattle.script_print.proofs.Bytes.{lacks, passes_too, is_ascii, ascii_is_utf8}
 use Rattle.script_print.proofs.LineWords.{IsWord}

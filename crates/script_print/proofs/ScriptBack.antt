@@ -20,7 +20,8 @@ use Rattle.fault_script.specs.declared.script.HeadLine.TheVariants as says
 use Rattle.fault_script.specs.declared.reader.Opening.{Opening}
 use Rattle.fault_script.specs.declared.reader.Stage.{Stage}
 use Rattle.fault_script.specs.declared.reader.Stage.TheVariants as stage
-use Rattle.fault_script.specs.Lines.{lines_of, onto_first, first_settings, with_factor, with_grace, with_expiry}
+use Rattle.script_words.specs.Words.{lines_of, onto_first}
+use Rattle.fault_script.specs.Lines.{first_settings, with_factor, with_grace, with_expiry}
 use Rattle.fault_script.specs.Written.{WrittenSchema, no_statements, with_line}
 use Rattle.fault_script.specs.Script.{IsSaid, IsRead, IsReadBy, Reads, Goes, GoesBy, HeadGoes, EventGoes, made_of, schema_of, end_of, script_with, longest_script, most_lines, first_reader, counted, opened, with_statement, with_event}
 use Rattle.fault_script.specs.Laws.{AreStatements}

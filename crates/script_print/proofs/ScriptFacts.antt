@@ -20,7 +20,8 @@ use Rattle.fault_script.specs.declared.script.HeadLine.TheVariants as says
 use Rattle.fault_script.specs.declared.reader.Opening.{Opening}
 use Rattle.fault_script.specs.declared.reader.Stage.{Stage}
 use Rattle.fault_script.specs.declared.reader.Stage.TheVariants as stage
-use Rattle.fault_script.specs.Lines.{head_line, event_at, is_skipped, lines_of, onto_first}
+use Rattle.script_words.specs.Words.{is_skipped, lines_of, onto_first}
+use Rattle.fault_script.specs.Lines.{head_line, event_at}
 use Rattle.fault_script.specs.Written.{WrittenSchema}
 use Rattle.fault_script.specs.Script.{IsOneStatement, IsRead, IsReadBy, Reads, Goes, GoesBy, LineGoes, HeadGoes, EventGoes, with_event, cql_event, made_of, end_of, script_with, longest_script, most_lines, first_reader}
 use Rattle.fault_script.specs.Laws.{AreStatements}

@@ -2,7 +2,7 @@ use Rattle.std.proofs.Common.{rules, tests, List, ℕ, Bor, sym, ◌∙◌}
 use Rattle.std.proofs.lemmas.Iterator.Search.{all_from_yields_List}
 use Rattle.std.proofs.lemmas.Iterator.{YieldsList-from_slice}
 use Rattle.std.proofs.lemmas.List.Folds.{list_all-map}
-use Rattle.fault_script.specs.Lines.{is_signed_number}
+use Rattle.script_words.specs.Words.{is_signed_number}
 use Rattle.fault_script.proofs.head.all_signed.Goals as goal
 
 pub returns : goal.returns

@@ -1,8 +1,8 @@
 use Rattle.std.proofs.Common.{◌≡◌, sym, ◌∙◌, ap, arith, to_z, of_z, w64, ◌++◌, [], ◌∷◌}
 use Rattle.std.specs.Prelude.{ℤ}
 use Rattle.std.proofs.lemmas.Int.{ints}
-use Rattle.fault_script.specs.Lines.{is_signed_number, is_long_word}
-use Rattle.fault_script.proofs.WordLaws.{read_more, passes_behind, passes_here}
+use Rattle.script_words.specs.Words.{is_signed_number, is_long_word}
+use Rattle.script_words.proofs.WordLaws.{read_more, passes_behind, passes_here}
 use Rattle.fault_script.proofs.head.tokens_of.Goals as goal
 
 pub loop-word-preserved : goal.loop-word-preserved

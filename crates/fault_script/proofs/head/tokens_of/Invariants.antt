@@ -1,7 +1,7 @@
 use Rattle.std.proofs.Common.{◌≡◌, ◌++◌, map, drop, true}
 use Rattle.std.specs.List.{list_all}
-use Rattle.fault_script.specs.Lines.{is_signed_number, is_long_word, signed_value}
-use Rattle.fault_script.specs.Words.{texts_of}
+use Rattle.script_words.specs.Words.{is_signed_number, is_long_word, signed_value}
+use Rattle.script_words.specs.Texts.{texts_of}
 use Rattle.fault_script.proofs.head.tokens_of.Given as goal
 
 -- the tokens so far and those of the words left are those of all words

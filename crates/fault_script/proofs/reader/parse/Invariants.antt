@@ -1,7 +1,7 @@
 use Rattle.std.proofs.Common.{◌+◌, ◌≤◌, length, Result}
 use Rattle.fault_script.specs.declared.script.Script.{Script}
 use Rattle.fault_script.specs.declared.script.ScriptError.{ScriptError}
-use Rattle.fault_script.specs.Lines.{lines_of}
+use Rattle.script_words.specs.Words.{lines_of}
 use Rattle.fault_script.specs.Script.{Reads, first_reader}
 use Rattle.fault_script.proofs.reader.parse.Given as goal
 
