@@ -361,3 +361,20 @@ all_due b k time ws rs xs keys f = record {
   where
     is_due : (d : Due) → (x : DueKey) × Contains keys x × (due_by x ≡ d) → IsDue b.setting b.me time (waits_in b k) d
     is_due d (x, there, is) = subst (λ (y : Due). Due_in b k time y) is (key_is_due b k time ws rs xs keys f x ((f.keys_are x).0 there))
+
+-- ---- something is due
+
+-- the first of these, where its deadline has come
+pub first_due : {A : Type 0} (time : ℕ) (xs : List (ReqId × A)) (id : ReqId) (a : A) → slice_get xs 0 ≡ Some (id, a) → is_due_at time id ≡ true → (j : ReqId) × Contains (keys_of xs) j × (deadline_of j ≤ time)
+first_due {A} time [] id a is due = absurd (none_some (id, a) is)
+  where
+    none_some : (y : ReqId × A) → None ≡ Some y → ⊥
+    none_some y e = cc
+first_due {A} time (x ∷ xs) id a is due =
+    (id, subst (λ (j : ReqId). Contains (keys_of (x ∷ xs)) j) (ap (λ (y : ReqId × A). y.0) (some_one x (id, a) is)) (contains_here x.0 (keys_of xs)), due_by_time time id due)
+
+pub deadline_due : (b : Base) (k : KeptHints) (time : ℕ) (id : ReqId) → Contains (keys_of b.writes.entries) id ⊎ Contains (keys_of b.reads.entries) id → deadline_of id ≤ time → (d : Due) × IsDue b.setting b.me time (waits_in b k) d
+deadline_due b k time id open' le = (due_by (deadline_key id), (le, inl (open', refl)))
+
+pub expiry_due : (b : Base) (k : KeptHints) (time : ℕ) → ((h : Hint) × Contains k.hints h × IsExpired b.setting.expiry time h) → (d : Due) × IsDue b.setting b.me time (waits_in b k) d
+expiry_due b k time (h, there, old) = (expiry_of b.setting b.me h, (old, inr (h, there, refl)))

@@ -8,6 +8,7 @@ mod Timeouts
 mod DueMatters
 mod Passing
 mod Hinting
+mod Idle
 mod Asking
 mod Mending
 mod Bodies

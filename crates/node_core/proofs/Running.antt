@@ -8,7 +8,9 @@ use Rattle.node_core.specs.declared.outcome.Lost.{Lost}
 use Rattle.node_core.specs.declared.outcome.StepError.TheVariants.{Failed}
 use Rattle.node_core.specs.Memory.{core_of, has_stopped}
 use Rattle.node_core.specs.Nodes.{Core, Steps}
-use Rattle.node_core.proofs.Answered.{NotFailed, Told, goes_on, still_on, stopped_by}
+use Rattle.hint_store.specs.Staged.{Staged}
+use Rattle.node_core.proofs.Answered.{NotFailed, Told, err_more, goes_on, still_on, stopped_by}
+use Rattle.node_core.proofs.Ending.{same_core, with_hints}
 
 abbrev pub core_if : Memory → Bool → Core
 core_if m runs = record (core_of m) { runs = runs }
@@ -41,3 +43,17 @@ failed_told r s l m m' n told err is back =
 pub others_told : (r : Told) (s : Bool) → s ≡ has_stopped r → OnErr r (NotFailed r → not s ≡ true)
 others_told (Ok o) s told = tt
 others_told (Err e) s told = let r : Told = Err e in λ on. run_told r s told on
+
+-- ---- hints are settled behind a step
+
+pub steps_settled : (r : Told) (m m' : Memory) (h : Staged) (d d' : Durable) (e : Event) (honest : Type 0) → h.before ≡ m'.hints.before → IfOk r (λ o. honest → Steps (core_of m) d e o (core_of m') d')
+    → IfOk r (λ o. honest → Steps (core_of m) d e o (core_of (with_hints m' h)) d')
+steps_settled (Ok o) m m' h d d' e honest same steps = λ is. subst (λ (x : Core). Steps (core_of m) d e o x d') (sym (same_core m' h same)) (steps is)
+steps_settled (Err e') m m' h d d' e honest same steps = tt
+
+pub back_settled : (r : Told) (m m' : Memory) (h : Staged) → h.before ≡ m'.hints.before → OnErr r (core_of m' ≡ core_of m) → OnErr r (core_of (with_hints m' h) ≡ core_of m)
+back_settled r m m' h same back = err_more r _ _ (λ is. same_core m' h same ∙ is) back
+
+pub log_told : (r : Told) (s : Bool) (S : Type 0) → s ≡ has_stopped r → OnErr r (NotFailed r → S) → OnErr r (not s ≡ true → S)
+log_told (Ok o) s S told still = tt
+log_told (Err e) s S told still = let r : Told = Err e in λ run. still (on_told r s told run)

@@ -324,8 +324,9 @@ pub record IsWorkedOut (b : Base) (honest : Type 0) (d : Durable) (left : List A
 
 -- ---- a replica that is looked at, and keeps what it kept
 
-pub record Peeks {R : Type 0} (stands_for : (ℕ → List ℕ) → Durable → Type 0) (disk : R → Disk) (durable : R → Durable) (log_end count : R → ℕ) (spares : R → ℕ → Type 0) (honest : Type 0) (old new : R) : Type 0 where
+pub record Peeks {R : Type 0} (stands_for : (ℕ → List ℕ) → Durable → Type 0) (disk : R → Disk) (durable : R → Durable) (log_end : R → ℕ) (since_flush : R → Option ℕ) (count : R → ℕ) (spares : R → ℕ → Type 0) (honest : Type 0) (old new : R) : Type 0 where
   pub looked : honest → Looked stands_for disk durable old new
   pub log : log_end new ≡ log_end old
+  pub flushed : since_flush new ≡ since_flush old
   pub faults : count old ≤ count new
   pub spared : ((n : ℕ) → spares old n) → (n : ℕ) → spares new n

@@ -1,19 +1,20 @@
 -- A node as its contracts see it: what it has in memory, and what its replica keeps.
-use Rattle.std.specs.Prelude.{◌≡◌, ◌⊎◌, ◌<◌, ℕ, Bool, List, []}
+use Rattle.std.specs.Prelude.{◌≡◌, ◌⊎◌, ◌<◌, ◌≤◌, ℕ, Bool, Option, List, []}
 use Rattle.cs_base.specs.declared.ids.ReqId.{ReqId}
 use Rattle.changes.specs.declared.Partition.{Partition}
 use Rattle.cs_store.specs.Disk.{Disk, IsImage}
 use Rattle.row_change.specs.declared.entry.LogEntry.{LogEntry}
 use Rattle.row_change.specs.declared.entry.LogItem.{LogItem}
 use Rattle.peer_messages.specs.declared.event.Event.{Event}
+use Rattle.peer_messages.specs.declared.event.What.TheVariants.{Tick}
 use Rattle.peer_messages.specs.declared.outcome.Outputs.{Outputs}
 use Rattle.peer_messages.specs.declared.chronicle.Entry.{Entry}
 use Rattle.peer_messages.specs.declared.setting.Setting.{Setting}
-use Rattle.durable_state.specs.State.{Durable}
+use Rattle.durable_state.specs.State.{Durable, formatted}
 use Rattle.durable_state.specs.Keeping.{Commits}
 use Rattle.node_steps.specs.State.{NodeState, Batch, OpenWrite, OpenRead, durable_of}
 use Rattle.node_steps.specs.Acts.{Deed}
-use Rattle.node_steps.specs.Steps.{NodeStep, risen_time, end_of_time}
+use Rattle.node_steps.specs.Steps.{NodeStep, Due, IsDue, risen_time, end_of_time}
 use Rattle.node_steps.specs.Keeping.{entry_of}
 use Rattle.node_steps.specs.Stops.{remains_in, CutStep, MayBeLeft}
 use Rattle.replica.specs.declared.kept.Kept.{Kept}
@@ -50,6 +51,19 @@ state_with n d = record {
   reads = n.reads;
 }
 
+-- a reading of the clock, and nothing else
+abbrev pub tick_at : ℕ → Event
+tick_at clock = record { clock = clock; what = Tick }
+
+-- of its state, what it has in memory
+abbrev pub memory_state : Core → NodeState
+memory_state n = state_with n (record formatted { ceiling = n.kept.ceiling; rows = n.kept.rows; hints = n.kept.hints; numbers = n.kept.numbers; marks = n.kept.marks })
+
+-- at this reading of the clock, without a message, its time does not pass its end, and nothing is due
+pub record IsIdle (n : Core) (clock : ℕ) : Type 0 where
+  pub within : risen_time n.time (tick_at clock) ≤ end_of_time
+  pub none : (d : Due) → IsDue n.setting n.me (risen_time n.time (tick_at clock)) (memory_state n) d → ⊥
+
 -- the node takes the event, gives these outputs, and goes on
 pub record Steps (n : Core) (d : Durable) (e : Event) (o : Outputs) (n' : Core) (d' : Durable) : Type 0 where
   pub deeds : List Deed
@@ -84,6 +98,10 @@ HasRoom log_end d items = (items ≡ [] → ⊥) → (PassesLog log_end (has_ite
 -- the node's time would pass its end, or its log its length
 abbrev pub HasNoRoom : Core → Durable → ℕ → Event → Type 0
 HasNoRoom n d log_end e = (end_of_time < risen_time n.time e) ⊎ WouldKeep n d e (OverflowsLog log_end d)
+
+-- the log is as long as before, and so is what was added since its last flush
+abbrev pub IsSameLog : {R : Type 0} → (R → ℕ) → (R → Option ℕ) → R → R → Type 0
+IsSameLog {R} log_end since_flush old new = (log_end new ≡ log_end old) × (since_flush new ≡ since_flush old)
 
 abbrev pub IsTooLarge : Core → Durable → Event → Partition → Type 0
 IsTooLarge n d e p = WouldKeep n d e (λ items. IsFirstTooLarge items d p)

@@ -1,14 +1,15 @@
 //! What is due in a step: deadlines of open requests, and hints that have come to be too old.
 
-ghost use Rattle.std.specs.Prelude.{◌≡◌, ◌↔◌, ◌<◌, ◌+◌, ◌^◌, ◌⊎◌, [], false, take_while, Contains, IfOk, OnOk};
+ghost use Rattle.std.specs.Prelude.{◌≡◌, ◌↔◌, ◌<◌, ◌≤◌, ◌+◌, ◌^◌, ◌⊎◌, [], true, false, take_while, Contains, IfOk, OnOk};
 ghost use Rattle.std.specs.BTreeSet.{insert_key};
 ghost use Rattle.std.specs.List.Sorted.{IsStrictlySortedBy};
 ghost use Rattle.std.specs.Map.{keys_of};
 ghost use Rattle.cs_base.specs.declared.ids.ReqId.{ReqId as request_value};
 ghost use Rattle.peer_messages.specs.Moves.{deadline_of};
+ghost use Rattle.node_steps.specs.Steps.{Due as due_matter, IsDue};
 ghost use Rattle.hint_store.specs.declared.aging.Expired.{Expired as expired_value};
 ghost use Rattle.node_core.specs.declared.due.DueKey.{DueKey as due_value};
-ghost use Rattle.node_core.specs.Due.{AreOwn, AreDueKeys, key_cmp, is_due_at, IsDeadlineKey, IsExpiryKey, deadline_key as deadline_key_of, expiry_key as expiry_key_of};
+ghost use Rattle.node_core.specs.Due.{AreOwn, AreDueKeys, waits_in, key_cmp, is_due_at, IsDeadlineKey, IsExpiryKey, deadline_key as deadline_key_of, expiry_key as expiry_key_of};
 ghost use Rattle.node_core.specs.Moving.{IsHolding};
 
 use crate::base::Base;
@@ -73,7 +74,8 @@ fn expiry_key(me: NodeId, expiry: Micros, hint: Expired) -> DueKey
 /// Whether the first of these requests, which are in the order of their deadlines, is due at this time.
 fn has_deadline<W: Drop>(me: NodeId, requests: &BTreeMap<ReqId, W>, time: Micros) -> bool
     requires { AreOwn me requests.now.entries }
-    ensures { result ≡ false → (id : request_value) → Contains (keys_of requests.now.entries) id → time < deadline_of id }
+    ensures none { result ≡ false → (id : request_value) → Contains (keys_of requests.now.entries) id → time < deadline_of id }
+    ensures some { result ≡ true → (id : request_value) × Contains (keys_of requests.now.entries) id × (deadline_of id ≤ time) }
 {
     match requests.first_key_value() {
         Some((id, _)) => !is_before_deadline(id, time),
@@ -84,7 +86,8 @@ fn has_deadline<W: Drop>(me: NodeId, requests: &BTreeMap<ReqId, W>, time: Micros
 /// Whether anything is due at this time. It takes no memory.
 pub(crate) fn has_due(base: &Base, hints: &HintStore, time: Micros) -> bool
     requires { IsHolding base.now }
-    ensures { result ≡ false → AreDueKeys base.now hints.now.now time [] }
+    ensures none { result ≡ false → AreDueKeys base.now hints.now.now time [] }
+    ensures some { result ≡ true → (d : due_matter) × IsDue base.now.setting base.now.me time (waits_in base.now hints.now.now) d }
 {
     if has_deadline(base.me, &base.writes, time) {
         return true;

@@ -47,7 +47,7 @@ pub(crate) struct Asker {
 fn held<R: Replica>(replica: &mut R, alloc: Global, query: &Query) -> Result<Content, CallError>
     requires whole { R.is_whole replica.old }
     ensures ok { IfOk result (λ part. R.Disk.is_honest → IsAnswerTo (changes_of (R.durable replica.old).content) query.now part) }
-    ensures peeks { Peeks R.stands_for (λ r. R.Disk.disk (R.disk r)) R.durable R.log_end (λ r. R.Disk.faults (R.disk r)) (λ r n. R.Disk.spares (R.disk r) n) R.Disk.is_honest replica.old replica.new }
+    ensures peeks { Peeks R.stands_for (λ r. R.Disk.disk (R.disk r)) R.durable R.log_end R.since_flush (λ r. R.Disk.faults (R.disk r)) (λ r n. R.Disk.spares (R.disk r) n) R.Disk.is_honest replica.old replica.new }
     ensures whole { (IsErrOf result call_error.Failed → ⊥) → R.is_whole replica.new }
     ensures failed { IsErrOf result call_error.Failed → HasRisen (R.Disk.faults (R.disk replica.old)) (R.Disk.faults (R.disk replica.new)) }
     ensures surely { IsErrOf result call_error.Failed → ((n : ℕ) → R.Disk.spares (R.disk replica.old) n) → ⊥ }
@@ -151,7 +151,7 @@ fn answer<R: Replica>(
     requires whole { R.is_whole replica.old }
     requires items { (time : _) × AllByRecursion (IsDataAt time) items.now }
     ensures ok { IfOk result (λ part. R.Disk.is_honest → AnswersBehind items.now (R.durable replica.old) query.now part) }
-    ensures peeks { Peeks R.stands_for (λ r. R.Disk.disk (R.disk r)) R.durable R.log_end (λ r. R.Disk.faults (R.disk r)) (λ r n. R.Disk.spares (R.disk r) n) R.Disk.is_honest replica.old replica.new }
+    ensures peeks { Peeks R.stands_for (λ r. R.Disk.disk (R.disk r)) R.durable R.log_end R.since_flush (λ r. R.Disk.faults (R.disk r)) (λ r n. R.Disk.spares (R.disk r) n) R.Disk.is_honest replica.old replica.new }
     ensures whole { (IsErrOf result call_error.Failed → ⊥) → R.is_whole replica.new }
     ensures failed { IsErrOf result call_error.Failed → HasRisen (R.Disk.faults (R.disk replica.old)) (R.Disk.faults (R.disk replica.new)) }
     ensures surely { IsErrOf result call_error.Failed → ((n : ℕ) → R.Disk.spares (R.disk replica.old) n) → ⊥ }
@@ -171,7 +171,7 @@ fn read_for<R: Replica>(
     requires items { (time : _) × AllByRecursion (IsDataAt time) items.now }
     ensures ok { IfOk result (λ part. R.Disk.is_honest → IsReadFor items.now (R.durable replica.old) body.now part) }
     ensures there { IfOk result (λ part. HasPart body.now part) }
-    ensures peeks { Peeks R.stands_for (λ r. R.Disk.disk (R.disk r)) R.durable R.log_end (λ r. R.Disk.faults (R.disk r)) (λ r n. R.Disk.spares (R.disk r) n) R.Disk.is_honest replica.old replica.new }
+    ensures peeks { Peeks R.stands_for (λ r. R.Disk.disk (R.disk r)) R.durable R.log_end R.since_flush (λ r. R.Disk.faults (R.disk r)) (λ r n. R.Disk.spares (R.disk r) n) R.Disk.is_honest replica.old replica.new }
     ensures whole { (IsErrOf result call_error.Failed → ⊥) → R.is_whole replica.new }
     ensures failed { IsErrOf result call_error.Failed → HasRisen (R.Disk.faults (R.disk replica.old)) (R.Disk.faults (R.disk replica.new)) }
     ensures surely { IsErrOf result call_error.Failed → ((n : ℕ) → R.Disk.spares (R.disk replica.old) n) → ⊥ }
@@ -386,7 +386,7 @@ pub(crate) fn hear<R: Replica>(
     ensures ok { IfOk result (λ given. IsHeard base.now R.Disk.is_honest (R.durable replica.old) (at work.old hints.old.now) (heard_from asker born body.old) given (at work.new hints.new.now)) }
     ensures before { hints.new.before ≡ hints.old.before }
     ensures same { IsErrOf result call_error.Failed → work.new ≡ work.old }
-    ensures peeks { Peeks R.stands_for (λ r. R.Disk.disk (R.disk r)) R.durable R.log_end (λ r. R.Disk.faults (R.disk r)) (λ r n. R.Disk.spares (R.disk r) n) R.Disk.is_honest replica.old replica.new }
+    ensures peeks { Peeks R.stands_for (λ r. R.Disk.disk (R.disk r)) R.durable R.log_end R.since_flush (λ r. R.Disk.faults (R.disk r)) (λ r n. R.Disk.spares (R.disk r) n) R.Disk.is_honest replica.old replica.new }
     ensures whole { (IsErrOf result call_error.Failed → ⊥) → R.is_whole replica.new }
     ensures failed { IsErrOf result call_error.Failed → HasRisen (R.Disk.faults (R.disk replica.old)) (R.Disk.faults (R.disk replica.new)) }
     ensures surely { IsErrOf result call_error.Failed → ((n : ℕ) → R.Disk.spares (R.disk replica.old) n) → ⊥ }
@@ -414,7 +414,7 @@ pub(crate) fn hear_own<R: Replica>(
     ensures ok { OnOk result (GoesBy base.now R.Disk.is_honest (R.durable replica.old) sent.old (at work.old hints.old.now) (at work.new hints.new.now)) }
     ensures before { hints.new.before ≡ hints.old.before }
     ensures same { IsErrOf result call_error.Failed → work.new ≡ work.old }
-    ensures peeks { Peeks R.stands_for (λ r. R.Disk.disk (R.disk r)) R.durable R.log_end (λ r. R.Disk.faults (R.disk r)) (λ r n. R.Disk.spares (R.disk r) n) R.Disk.is_honest replica.old replica.new }
+    ensures peeks { Peeks R.stands_for (λ r. R.Disk.disk (R.disk r)) R.durable R.log_end R.since_flush (λ r. R.Disk.faults (R.disk r)) (λ r n. R.Disk.spares (R.disk r) n) R.Disk.is_honest replica.old replica.new }
     ensures whole { (IsErrOf result call_error.Failed → ⊥) → R.is_whole replica.new }
     ensures failed { IsErrOf result call_error.Failed → HasRisen (R.Disk.faults (R.disk replica.old)) (R.Disk.faults (R.disk replica.new)) }
     ensures surely { IsErrOf result call_error.Failed → ((n : ℕ) → R.Disk.spares (R.disk replica.old) n) → ⊥ }

@@ -9,7 +9,7 @@ ghost use Rattle.replica.specs.Kept.{ArriveAllAt, ArriveAtOnce, IsKeptAfter, Pur
 ghost use Rattle.replica.specs.Lengths.{IsFirstTooLarge};
 ghost use Rattle.replica.specs.declared.error.CallError.TheVariants as call_error;
 ghost use Rattle.replica.specs.declared.error.RoomError.TheVariants as room_error;
-ghost use Rattle.node_core.specs.Nodes.{HasRoom, OverflowsLog};
+ghost use Rattle.node_core.specs.Nodes.{HasRoom, IsSameLog, OverflowsLog};
 ghost use Rattle.node_core.specs.Memory.{IsBare, TellsBy, kept_with};
 
 use cs_base::{Items, Micros};
@@ -43,6 +43,7 @@ pub(crate) fn keep<R: Replica>(
     ensures ok { OnOk result (R.Disk.is_honest → Commits entry.now.items (R.durable replica.old) (R.durable replica.new)) }
     ensures whole { (IsErrOf result room_error.Failed → ⊥) → R.is_whole replica.new }
     ensures same { OnErr result ((IsErrOf result room_error.Failed → ⊥) → R.Disk.is_honest → R.durable replica.new ≡ R.durable replica.old) }
+    ensures log { OnErr result ((IsErrOf result room_error.Failed → ⊥) → IsSameLog R.log_end R.since_flush replica.old replica.new) }
     ensures too_large { (p : _) → IsErrOf result (room_error.TooLarge p) → R.Disk.is_honest → IsFirstTooLarge entry.now.items (R.durable replica.old) p }
     ensures room { OnOk result (R.Disk.is_honest → HasRoom (R.log_end replica.old) (R.durable replica.old) entry.now.items) }
     ensures no_room { IsErrOf result room_error.NoRoom → R.Disk.is_honest → OverflowsLog (R.log_end replica.old) (R.durable replica.old) entry.now.items }
@@ -82,6 +83,7 @@ pub(crate) fn keep_and_flush<R: Replica>(
     ensures tables { IfOk result (λ n. n ≡ R.table_count replica.new) }
     ensures whole { (IsErrOf result room_error.Failed → ⊥) → R.is_whole replica.new }
     ensures same { OnErr result ((IsErrOf result room_error.Failed → ⊥) → R.Disk.is_honest → R.durable replica.new ≡ R.durable replica.old) }
+    ensures log { OnErr result ((IsErrOf result room_error.Failed → ⊥) → IsSameLog R.log_end R.since_flush replica.old replica.new) }
     ensures too_large { (p : _) → IsErrOf result (room_error.TooLarge p) → R.Disk.is_honest → IsFirstTooLarge entry.now.items (R.durable replica.old) p }
     ensures room { OnOk result (R.Disk.is_honest → HasRoom (R.log_end replica.old) (R.durable replica.old) entry.now.items) }
     ensures no_room { IsErrOf result room_error.NoRoom → R.Disk.is_honest → OverflowsLog (R.log_end replica.old) (R.durable replica.old) entry.now.items }
@@ -121,6 +123,7 @@ fn flush_with<R: Replica>(
     ensures tables { IfOk result (λ n. n ≡ R.table_count replica.new) }
     ensures whole { (IsErrOf result room_error.Failed → ⊥) → R.is_whole replica.new }
     ensures same { OnErr result ((IsErrOf result room_error.Failed → ⊥) → R.Disk.is_honest → R.durable replica.new ≡ R.durable replica.old) }
+    ensures log { OnErr result ((IsErrOf result room_error.Failed → ⊥) → IsSameLog R.log_end R.since_flush replica.old replica.new) }
     ensures too_large { (p : _) → IsErrOf result (room_error.TooLarge p) → R.Disk.is_honest → IsFirstTooLarge entry.now.items (R.durable replica.old) p }
     ensures room { OnOk result (R.Disk.is_honest → HasRoom (R.log_end replica.old) (R.durable replica.old) entry.now.items) }
     ensures no_room { IsErrOf result room_error.NoRoom → R.Disk.is_honest → OverflowsLog (R.log_end replica.old) (R.durable replica.old) entry.now.items }
@@ -165,6 +168,7 @@ fn write<R: Replica>(
     ensures tables { IfOk result (λ tables. TellsBy flushes tables) }
     ensures whole { (IsErrOf result room_error.Failed → ⊥) → R.is_whole replica.new }
     ensures same { OnErr result ((IsErrOf result room_error.Failed → ⊥) → R.Disk.is_honest → R.durable replica.new ≡ R.durable replica.old) }
+    ensures log { OnErr result ((IsErrOf result room_error.Failed → ⊥) → IsSameLog R.log_end R.since_flush replica.old replica.new) }
     ensures too_large { (p : _) → IsErrOf result (room_error.TooLarge p) → R.Disk.is_honest → IsFirstTooLarge entry.now.items (R.durable replica.old) p }
     ensures room { OnOk result (R.Disk.is_honest → HasRoom (R.log_end replica.old) (R.durable replica.old) entry.now.items) }
     ensures no_room { IsErrOf result room_error.NoRoom → R.Disk.is_honest → OverflowsLog (R.log_end replica.old) (R.durable replica.old) entry.now.items }
@@ -207,6 +211,7 @@ pub(crate) fn commit<R: Replica>(
     ensures tables { IfOk result (λ tables. TellsBy flushes tables) }
     ensures whole { (IsErrOf result room_error.Failed → ⊥) → R.is_whole replica.new }
     ensures same { OnErr result ((IsErrOf result room_error.Failed → ⊥) → R.Disk.is_honest → R.durable replica.new ≡ R.durable replica.old) }
+    ensures log { OnErr result ((IsErrOf result room_error.Failed → ⊥) → IsSameLog R.log_end R.since_flush replica.old replica.new) }
     ensures too_large { (p : _) → IsErrOf result (room_error.TooLarge p) → R.Disk.is_honest → IsFirstTooLarge entry.now.items (R.durable replica.old) p }
     ensures room { OnOk result (R.Disk.is_honest → HasRoom (R.log_end replica.old) (R.durable replica.old) entry.now.items) }
     ensures no_room { IsErrOf result room_error.NoRoom → R.Disk.is_honest → OverflowsLog (R.log_end replica.old) (R.durable replica.old) entry.now.items }

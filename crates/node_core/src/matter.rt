@@ -155,7 +155,7 @@ fn take_message<R: Replica>(
     ensures ok { IfOk result (λ given. TakesMatters base.now R.Disk.is_honest (R.durable replica.old) (at work.old hints.old.now) (heard_matter base.now.setting base.now.me message.old) given (at work.new hints.new.now)) }
     ensures before { hints.new.before ≡ hints.old.before }
     ensures same { IsErrOf result call_error.Failed → work.new ≡ work.old }
-    ensures peeks { Peeks R.stands_for (λ r. R.Disk.disk (R.disk r)) R.durable R.log_end (λ r. R.Disk.faults (R.disk r)) (λ r n. R.Disk.spares (R.disk r) n) R.Disk.is_honest replica.old replica.new }
+    ensures peeks { Peeks R.stands_for (λ r. R.Disk.disk (R.disk r)) R.durable R.log_end R.since_flush (λ r. R.Disk.faults (R.disk r)) (λ r n. R.Disk.spares (R.disk r) n) R.Disk.is_honest replica.old replica.new }
     ensures whole { (IsErrOf result call_error.Failed → ⊥) → R.is_whole replica.new }
     ensures failed { IsErrOf result call_error.Failed → HasRisen (R.Disk.faults (R.disk replica.old)) (R.Disk.faults (R.disk replica.new)) }
     ensures surely { IsErrOf result call_error.Failed → ((n : ℕ) → R.Disk.spares (R.disk replica.old) n) → ⊥ }
@@ -210,7 +210,7 @@ fn take<R: Replica>(
     ensures before { hints.new.before ≡ hints.old.before }
     ensures same { IsErrOf result call_error.Failed → work.new ≡ work.old }
     ensures asks { IsErrOf result call_error.Failed → AskNothing (matter_of base.now.setting base.now.me what.old) }
-    ensures peeks { Peeks R.stands_for (λ r. R.Disk.disk (R.disk r)) R.durable R.log_end (λ r. R.Disk.faults (R.disk r)) (λ r n. R.Disk.spares (R.disk r) n) R.Disk.is_honest replica.old replica.new }
+    ensures peeks { Peeks R.stands_for (λ r. R.Disk.disk (R.disk r)) R.durable R.log_end R.since_flush (λ r. R.Disk.faults (R.disk r)) (λ r n. R.Disk.spares (R.disk r) n) R.Disk.is_honest replica.old replica.new }
     ensures whole { (IsErrOf result call_error.Failed → ⊥) → R.is_whole replica.new }
     ensures failed { IsErrOf result call_error.Failed → HasRisen (R.Disk.faults (R.disk replica.old)) (R.Disk.faults (R.disk replica.new)) }
     ensures surely { IsErrOf result call_error.Failed → ((n : ℕ) → R.Disk.spares (R.disk replica.old) n) → ⊥ }
@@ -237,7 +237,7 @@ fn settle<R: Replica>(
     ensures ok { OnOk result (IsSettled base.now R.Disk.is_honest (R.durable replica.old) (at work.old hints.old.now) (at work.new hints.new.now)) }
     ensures before { hints.new.before ≡ hints.old.before }
     ensures cut { IsErrOf result call_error.Failed → CutsOn base.now work.old work.new }
-    ensures peeks { Peeks R.stands_for (λ r. R.Disk.disk (R.disk r)) R.durable R.log_end (λ r. R.Disk.faults (R.disk r)) (λ r n. R.Disk.spares (R.disk r) n) R.Disk.is_honest replica.old replica.new }
+    ensures peeks { Peeks R.stands_for (λ r. R.Disk.disk (R.disk r)) R.durable R.log_end R.since_flush (λ r. R.Disk.faults (R.disk r)) (λ r n. R.Disk.spares (R.disk r) n) R.Disk.is_honest replica.old replica.new }
     ensures whole { (IsErrOf result call_error.Failed → ⊥) → R.is_whole replica.new }
     ensures failed { IsErrOf result call_error.Failed → HasRisen (R.Disk.faults (R.disk replica.old)) (R.Disk.faults (R.disk replica.new)) }
     ensures surely { IsErrOf result call_error.Failed → ((n : ℕ) → R.Disk.spares (R.disk replica.old) n) → ⊥ }
@@ -269,7 +269,7 @@ pub(crate) fn work_out<R: Replica>(
     ensures ok { OnOk result (IsWorkedOut base.now R.Disk.is_honest (R.durable replica.old) (matter_of base.now.setting base.now.me what.old) (at work.old hints.old.now) (at work.new hints.new.now)) }
     ensures before { hints.new.before ≡ hints.old.before }
     ensures cut { IsErrOf result call_error.Failed → R.Disk.is_honest → CutsIn base.now (R.durable replica.old) (matter_of base.now.setting base.now.me what.old) (at work.old hints.old.now) work.new }
-    ensures peeks { Peeks R.stands_for (λ r. R.Disk.disk (R.disk r)) R.durable R.log_end (λ r. R.Disk.faults (R.disk r)) (λ r n. R.Disk.spares (R.disk r) n) R.Disk.is_honest replica.old replica.new }
+    ensures peeks { Peeks R.stands_for (λ r. R.Disk.disk (R.disk r)) R.durable R.log_end R.since_flush (λ r. R.Disk.faults (R.disk r)) (λ r n. R.Disk.spares (R.disk r) n) R.Disk.is_honest replica.old replica.new }
     ensures whole { (IsErrOf result call_error.Failed → ⊥) → R.is_whole replica.new }
     ensures failed { IsErrOf result call_error.Failed → HasRisen (R.Disk.faults (R.disk replica.old)) (R.Disk.faults (R.disk replica.new)) }
     ensures surely { IsErrOf result call_error.Failed → ((n : ℕ) → R.Disk.spares (R.disk replica.old) n) → ⊥ }

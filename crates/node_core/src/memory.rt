@@ -11,7 +11,7 @@ ghost use Rattle.node_steps.specs.Stops.{remains};
 ghost use Rattle.replica.specs.Finding.{AlwaysLeaves};
 ghost use Rattle.replica.specs.Kept.{IsKeptOf, IsKeptAfter};
 ghost use Rattle.replica.specs.Lengths.{IsFirstTooLarge};
-ghost use Rattle.node_core.specs.Nodes.{Steps, HasRoom, HasNoRoom, IsTooLarge, Halts, IsBeforeOrBehind, OverflowsLog, WouldKeep};
+ghost use Rattle.node_core.specs.Nodes.{Steps, HasRoom, HasNoRoom, IsSameLog, IsTooLarge, Halts, IsBeforeOrBehind, OverflowsLog, WouldKeep};
 ghost use Rattle.node_core.specs.Working.{IsSound};
 ghost use Rattle.node_core.specs.Asking.{IsFresh};
 ghost use Rattle.node_core.specs.Hinting.{at};
@@ -191,7 +191,7 @@ impl Made {
         ensures cut { IsErrOf result call_error.Failed → R.Disk.is_honest → CutsOff base.now (R.durable replica.old) what.old (at self.old.work hints.old.now) self.new.work }
         ensures before { hints.new.before ≡ hints.old.before }
         ensures made { self.new ≡ record self.old { work = self.new.work } }
-        ensures peeks { Peeks R.stands_for (λ r. R.Disk.disk (R.disk r)) R.durable R.log_end (λ r. R.Disk.faults (R.disk r)) (λ r n. R.Disk.spares (R.disk r) n) R.Disk.is_honest replica.old replica.new }
+        ensures peeks { Peeks R.stands_for (λ r. R.Disk.disk (R.disk r)) R.durable R.log_end R.since_flush (λ r. R.Disk.faults (R.disk r)) (λ r n. R.Disk.spares (R.disk r) n) R.Disk.is_honest replica.old replica.new }
         ensures whole { (IsErrOf result call_error.Failed → ⊥) → R.is_whole replica.new }
         ensures failed { IsErrOf result call_error.Failed → HasRisen (R.Disk.faults (R.disk replica.old)) (R.Disk.faults (R.disk replica.new)) }
         ensures surely { IsErrOf result call_error.Failed → ((n : ℕ) → R.Disk.spares (R.disk replica.old) n) → ⊥ }
@@ -234,6 +234,7 @@ fn keep_made<R: Replica>(
     ensures bare { IsBare memory.new.kept }
     ensures whole { ((l : _) → IsErrOf result (step_error.Failed l) → ⊥) → R.is_whole replica.new }
     ensures same { OnErr result (((l : _) → IsErrOf result (step_error.Failed l) → ⊥) → R.Disk.is_honest → R.durable replica.new ≡ R.durable replica.old) }
+    ensures log { OnErr result (((l : _) → IsErrOf result (step_error.Failed l) → ⊥) → IsSameLog R.log_end R.since_flush replica.old replica.new) }
     ensures too_large { (p : _) → IsErrOf result (step_error.TooLarge p) → R.Disk.is_honest → IsFirstTooLarge (entry_made memory.old.kept.ceiling memory.old.made.work) (R.durable replica.old) p }
     ensures room { OnOk result (R.Disk.is_honest → HasRoom (R.log_end replica.old) (R.durable replica.old) (entry_made memory.old.kept.ceiling memory.old.made.work)) }
     ensures no_room { IsErrOf result step_error.NoRoom → R.Disk.is_honest → OverflowsLog (R.log_end replica.old) (R.durable replica.old) (entry_made memory.old.kept.ceiling memory.old.made.work) }
@@ -293,6 +294,7 @@ fn step_at<R: Replica>(
 ) -> Result<Outputs, StepError>
     requires whole { R.is_whole replica.old }
     requires held { HoldsCore memory.old }
+    requires settled { memory.old.hints.now ≡ memory.old.hints.before }
     requires tied { R.Disk.is_honest → IsKeptOf (R.durable replica.old) (core_of memory.old).kept }
     requires time { time ≡ risen_time memory.old.time event.old }
     requires within { time ≤ end_of_time }
@@ -303,10 +305,12 @@ fn step_at<R: Replica>(
     ensures whole { ((l : _) → IsErrOf result (step_error.Failed l) → ⊥) → R.is_whole replica.new }
     ensures back { OnErr result (core_of memory.new ≡ core_of memory.old) }
     ensures same { OnErr result (((l : _) → IsErrOf result (step_error.Failed l) → ⊥) → R.Disk.is_honest → R.durable replica.new ≡ R.durable replica.old) }
+    ensures log { OnErr result (((l : _) → IsErrOf result (step_error.Failed l) → ⊥) → IsSameLog R.log_end R.since_flush replica.old replica.new) }
     ensures room { OnOk result (R.Disk.is_honest → WouldKeep (core_of memory.old) (R.durable replica.old) event.old (HasRoom (R.log_end replica.old) (R.durable replica.old))) }
     ensures no_room { IsErrOf result step_error.NoRoom → R.Disk.is_honest → HasNoRoom (core_of memory.old) (R.durable replica.old) (R.log_end replica.old) event.old }
     ensures too_large { (p : _) → IsErrOf result (step_error.TooLarge p) → R.Disk.is_honest → IsTooLarge (core_of memory.old) (R.durable replica.old) event.old p }
     ensures cause { (l : _) → IsErrOf result (step_error.Failed l) → HasRisen (R.Disk.faults (R.disk replica.old)) (R.Disk.faults (R.disk replica.new)) }
+    ensures faults { R.Disk.faults (R.disk replica.old) ≤ R.Disk.faults (R.disk replica.new) }
     ensures surely { (l : _) → IsErrOf result (step_error.Failed l) → ((n : ℕ) → R.Disk.spares (R.disk replica.old) n) → ⊥ }
     ensures spared { ((n : ℕ) → R.Disk.spares (R.disk replica.old) n) → (n : ℕ) → R.Disk.spares (R.disk replica.new) n }
     ensures halts { (l : _) → IsErrOf result (step_error.Failed l) → R.Disk.is_honest → Halts (core_of memory.old) (R.durable replica.old) event.old (remains l.started l.entries) R.stands_for (R.Disk.disk (R.disk replica.new)) }
@@ -314,8 +318,6 @@ fn step_at<R: Replica>(
     // A crash at any moment of the step leaves what was kept before it or behind it.
     ensures any_moment { R.Disk.is_honest → AlwaysLeaves R.stands_for (IsBeforeOrBehind (core_of memory.old) (R.durable replica.old) event.old) (R.Disk.disk (R.disk replica.old)) (R.Disk.disk (R.disk replica.new)) }
 {
-    // what an earlier step had of hints and did not keep
-    memory.hints.back();
     memory.made.begin(
         &memory.base,
         memory.time,
@@ -346,6 +348,7 @@ pub(crate) fn advance<R: Replica>(
 ) -> Result<Outputs, StepError>
     requires whole { R.is_whole replica.old }
     requires held { HoldsCore memory.old }
+    requires settled { memory.old.hints.now ≡ memory.old.hints.before }
     requires tied { R.Disk.is_honest → IsKeptOf (R.durable replica.old) (core_of memory.old).kept }
 
     ensures ok { IfOk result (λ outputs. R.Disk.is_honest → Steps (core_of memory.old) (R.durable replica.old) event.old outputs (core_of memory.new) (R.durable replica.new)) }
@@ -355,10 +358,12 @@ pub(crate) fn advance<R: Replica>(
     ensures whole { ((l : _) → IsErrOf result (step_error.Failed l) → ⊥) → R.is_whole replica.new }
     ensures back { OnErr result (core_of memory.new ≡ core_of memory.old) }
     ensures same { OnErr result (((l : _) → IsErrOf result (step_error.Failed l) → ⊥) → R.Disk.is_honest → R.durable replica.new ≡ R.durable replica.old) }
+    ensures log { OnErr result (((l : _) → IsErrOf result (step_error.Failed l) → ⊥) → IsSameLog R.log_end R.since_flush replica.old replica.new) }
     ensures room { OnOk result (R.Disk.is_honest → WouldKeep (core_of memory.old) (R.durable replica.old) event.old (HasRoom (R.log_end replica.old) (R.durable replica.old))) }
     ensures no_room { IsErrOf result step_error.NoRoom → R.Disk.is_honest → HasNoRoom (core_of memory.old) (R.durable replica.old) (R.log_end replica.old) event.old }
     ensures too_large { (p : _) → IsErrOf result (step_error.TooLarge p) → R.Disk.is_honest → IsTooLarge (core_of memory.old) (R.durable replica.old) event.old p }
     ensures cause { (l : _) → IsErrOf result (step_error.Failed l) → HasRisen (R.Disk.faults (R.disk replica.old)) (R.Disk.faults (R.disk replica.new)) }
+    ensures faults { R.Disk.faults (R.disk replica.old) ≤ R.Disk.faults (R.disk replica.new) }
     ensures surely { (l : _) → IsErrOf result (step_error.Failed l) → ((n : ℕ) → R.Disk.spares (R.disk replica.old) n) → ⊥ }
     ensures spared { ((n : ℕ) → R.Disk.spares (R.disk replica.old) n) → (n : ℕ) → R.Disk.spares (R.disk replica.new) n }
     ensures halts { (l : _) → IsErrOf result (step_error.Failed l) → R.Disk.is_honest → Halts (core_of memory.old) (R.durable replica.old) event.old (remains l.started l.entries) R.stands_for (R.Disk.disk (R.disk replica.new)) }

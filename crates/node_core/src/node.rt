@@ -1,6 +1,6 @@
 //! A node: an event is taken in memory, kept by one commit, and told.
 
-ghost use Rattle.std.specs.Prelude.{◌≡◌, ◌≤◌, ◌<◌, ℕ, [], true, false, IfOk, OnOk, OnErr, IsErrOf};
+ghost use Rattle.std.specs.Prelude.{◌≡◌, ◌≤◌, ◌<◌, ◌↔◌, IsTrue, ℕ, [], true, false, IfOk, OnOk, OnErr, IsErrOf};
 ghost use Rattle.cs_base.specs.Faults.{HasRisen};
 ghost use Rattle.cs_store.specs.Disk.{IsSettled};
 ghost use Rattle.durable_state.specs.State.{Durable, IsSameKept};
@@ -11,14 +11,16 @@ ghost use Rattle.node_steps.specs.Stops.{remains};
 ghost use Rattle.replica.specs.Finding.{AlwaysLeaves};
 ghost use Rattle.replica.specs.Kept.{IsKeptOf};
 ghost use Rattle.replica.specs.declared.error.LoadError.TheVariants as load_error;
-ghost use Rattle.node_core.specs.Nodes.{state_with, Steps, WouldKeep, HasRoom, HasNoRoom, IsTooLarge, Halts, IsBeforeOrBehind};
+ghost use Rattle.node_core.specs.Nodes.{state_with, Steps, WouldKeep, HasRoom, HasNoRoom, IsSameLog, IsIdle, IsTooLarge, Halts, IsBeforeOrBehind};
 ghost use Rattle.node_core.specs.Memory.{has_stopped as has_stopped_of, IsLoaded};
 ghost use Rattle.node_core.specs.declared.outcome.StepError.TheVariants as step_error;
 
 use crate::base::Base;
+use crate::due::has_due;
 use crate::memory::{Made, Memory, advance};
 use crate::outcome::{Lost, StepError};
-use cs_base::{Items, NodeId};
+use crate::times::risen_at;
+use cs_base::{Items, Micros, NodeId};
 use hint_store::HintStore;
 use node_steps::what_fits_is_tested;
 use peer_messages::{Event, Outputs, Setting};
@@ -35,6 +37,7 @@ pub struct NodeCore {
 }
 
 impl Model for NodeCore {
+    ghost use Rattle.std.specs.Prelude.{◌≡◌};
     ghost use Rattle.node_core.specs.Nodes.{Core};
     ghost use Rattle.node_core.specs.Memory.{core_of, HoldsCore};
 
@@ -42,7 +45,7 @@ impl Model for NodeCore {
 
     ghost view = { λ a. record (core_of a.memory) { runs = a.runs } };
 
-    ghost invariant = { λ a. HoldsCore a.memory };
+    ghost invariant = { λ a. HoldsCore a.memory × (a.memory.hints.now ≡ a.memory.hints.before) };
 }
 
 /// A node: what it has in memory, and what keeps its durable state.
@@ -64,6 +67,25 @@ impl NodeCore {
         ensures { result.now ≡ self.now.down }
     {
         self.memory.base.down.as_slice()
+    }
+
+    /// Whether no call of its store has failed. After one it takes no step.
+    pub fn runs(&self) -> bool
+        ensures { result ≡ self.now.runs }
+    {
+        self.runs
+    }
+
+    /// Whether a step at this reading of the clock, to which no message comes, would find nothing due. Where the node's time
+    /// would pass its end it is not.
+    pub fn is_idle(&self, clock: Micros) -> bool
+        ensures { IsTrue result ↔ IsIdle self.now clock }
+    {
+        let memory = &self.memory;
+        match risen_at(memory.time, clock) {
+            Some(time) => !has_due(&memory.base, &memory.hints, time),
+            None => false,
+        }
     }
 
     fn loaded(
@@ -128,9 +150,11 @@ impl NodeCore {
         ensures no_room { IsErrOf result step_error.NoRoom → R.Disk.is_honest → HasNoRoom self.old (R.durable replica.old) (R.log_end replica.old) event.old }
         ensures too_large { (p : _) → IsErrOf result (step_error.TooLarge p) → R.Disk.is_honest → IsTooLarge self.old (R.durable replica.old) event.old p }
         ensures same { OnErr result (self.new.runs ≡ true → (self.new ≡ self.old) × (R.Disk.is_honest → R.durable replica.new ≡ R.durable replica.old)) }
+        ensures log { OnErr result (self.new.runs ≡ true → IsSameLog R.log_end R.since_flush replica.old replica.new) }
         ensures failed { (l : _) → IsErrOf result (step_error.Failed l) → self.new ≡ record self.old { runs = false } }
         ensures others { OnErr result (((l : _) → IsErrOf result (step_error.Failed l) → ⊥) → self.new.runs ≡ true) }
         ensures cause { (l : _) → IsErrOf result (step_error.Failed l) → self.old.runs ≡ true → HasRisen (R.Disk.faults (R.disk replica.old)) (R.Disk.faults (R.disk replica.new)) }
+        ensures faults { R.Disk.faults (R.disk replica.old) ≤ R.Disk.faults (R.disk replica.new) }
         ensures halts { (l : _) → IsErrOf result (step_error.Failed l) → self.old.runs ≡ true → R.Disk.is_honest → Halts self.old (R.durable replica.old) event.old (remains l.started l.entries) R.stands_for (R.Disk.disk (R.disk replica.new)) }
         ensures dead { self.old.runs ≡ false → (self.new ≡ self.old) × (replica.new ≡ replica.old) }
         ensures told { (l : _) → IsErrOf result (step_error.Failed l) → self.old.runs ≡ false → remains l.started l.entries ≡ [] }
@@ -143,6 +167,8 @@ impl NodeCore {
             return Err(StepError::Failed(Lost::nothing(alloc)));
         }
         let result = advance(&mut self.memory, replica, alloc, event);
+        // Of a step that is not kept no hint stays.
+        self.memory.hints.back();
         self.runs = !has_stopped(&result);
         result
     }
@@ -201,9 +227,11 @@ impl<R: Replica> Node<R> {
         ensures no_room { IsErrOf result step_error.NoRoom → R.Disk.is_honest → HasNoRoom self.old.core (R.durable self.old.replica) (R.log_end self.old.replica) event }
         ensures too_large { (p : _) → IsErrOf result (step_error.TooLarge p) → R.Disk.is_honest → IsTooLarge self.old.core (R.durable self.old.replica) event p }
         ensures same { OnErr result (self.new.core.runs ≡ true → (self.new.core ≡ self.old.core) × (R.Disk.is_honest → R.durable self.new.replica ≡ R.durable self.old.replica)) }
+        ensures log { OnErr result (self.new.core.runs ≡ true → IsSameLog R.log_end R.since_flush self.old.replica self.new.replica) }
         ensures failed { (l : _) → IsErrOf result (step_error.Failed l) → self.new.core ≡ record self.old.core { runs = false } }
         ensures others { OnErr result (((l : _) → IsErrOf result (step_error.Failed l) → ⊥) → self.new.core.runs ≡ true) }
         ensures cause { (l : _) → IsErrOf result (step_error.Failed l) → self.old.core.runs ≡ true → HasRisen (R.Disk.faults (R.disk self.old.replica)) (R.Disk.faults (R.disk self.new.replica)) }
+        ensures faults { R.Disk.faults (R.disk self.old.replica) ≤ R.Disk.faults (R.disk self.new.replica) }
         ensures halts { (l : _) → IsErrOf result (step_error.Failed l) → self.old.core.runs ≡ true → R.Disk.is_honest → Halts self.old.core (R.durable self.old.replica) event (remains l.started l.entries) R.stands_for (R.Disk.disk (R.disk self.new.replica)) }
         ensures dead { self.old.core.runs ≡ false → (self.new.core ≡ self.old.core) × (self.new.replica ≡ self.old.replica) }
         ensures told { (l : _) → IsErrOf result (step_error.Failed l) → self.old.core.runs ≡ false → remains l.started l.entries ≡ [] }

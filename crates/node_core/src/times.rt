@@ -4,6 +4,7 @@ ghost use Rattle.std.specs.Prelude.{◌≡◌, ◌<◌, ◌≤◌, ◌↔◌, Is
 ghost use Rattle.peer_messages.specs.declared.event.What.TheVariants.{Tick};
 ghost use Rattle.node_steps.specs.Acts.{ceiling_after, is_old as is_old_of};
 ghost use Rattle.node_steps.specs.Steps.{reading as reading_of, message_time as message_time_of, is_ahead as is_ahead_of, looked_at, risen_time, end_of_time, started_by, is_refused as is_refused_of};
+ghost use Rattle.node_core.specs.Nodes.{tick_at};
 
 use cs_base::{Micros, NodeId, ReqId};
 use peer_messages::{Event, Setting, What};
@@ -72,6 +73,19 @@ pub(crate) fn risen(time: Micros, event: &Event) -> Option<Micros>
         return None;
     }
     Some(Micros::new(risen as u64))
+}
+
+/// The time to which a node's rises at a reading of its clock, unless it would pass its end.
+pub(crate) fn risen_at(time: Micros, clock: Micros) -> Option<Micros>
+    ensures none { IsNone result ↔ (end_of_time < risen_time time (tick_at clock)) }
+    ensures value { IfSome result (λ risen. risen ≡ risen_time time (tick_at clock)) }
+    ensures within { IfSome result (λ risen. risen ≤ end_of_time) }
+{
+    let event = Event {
+        clock,
+        what: What::Tick,
+    };
+    risen(time, &event)
 }
 
 /// The ceiling behind a time.

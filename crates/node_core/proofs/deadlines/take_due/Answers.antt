@@ -8,7 +8,7 @@ use Rattle.node_core.proofs.deadlines.take_due.Goals as goal
 
 pub returns-then-not-has_due-clause-ok : goal.returns-then-not-has_due-clause-ok
 returns-then-not-has_due-clause-ok c =
-    due_taken c.args.base.now (at c.args.work.now c.args.hints.now.now) (at c.args.work.now c.args.hints.now.now) [] (c.has_due.ensures c.if-not-has_due.true) (passed_none c.args.base.now (at c.args.work.now c.args.hints.now.now) c.requires.holding c.requires.fresh)
+    due_taken c.args.base.now (at c.args.work.now c.args.hints.now.now) (at c.args.work.now c.args.hints.now.now) [] (c.has_due.ensures.none c.if-not-has_due.true) (passed_none c.args.base.now (at c.args.work.now c.args.hints.now.now) c.requires.holding c.requires.fresh)
 
 pub loop-key-init : goal.loop-key-init
 loop-key-init c = record {

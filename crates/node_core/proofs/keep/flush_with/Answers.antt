@@ -152,3 +152,16 @@ returns-clause-spared g c = c.keep_and_flush-told.ensures.spared
 
 pub returns-clause-any_moment : goal.returns-clause-any_moment
 returns-clause-any_moment g c = c.keep_and_flush-told.ensures.any_moment
+
+pub returns-in_err-all-clause-log : goal.returns-in_err-all-clause-log
+returns-in_err-all-clause-log g c =
+    let e = err_from_is_err_and c.from_residual.result c.from_residual.ensures.1 in
+    rw e.1 (λ fine. (refl, refl))
+
+pub returns-in_err-numbers-clause-log : goal.returns-in_err-numbers-clause-log
+returns-in_err-numbers-clause-log g c =
+    let e = err_from_is_err_and c.from_residual-in_err-numbers.result c.from_residual-in_err-numbers.ensures.1 in
+    rw e.1 (λ fine. (refl, refl))
+
+pub returns-clause-log : goal.returns-clause-log
+returns-clause-log g c = c.keep_and_flush-told.ensures.log

@@ -150,3 +150,17 @@ pub returns-in_err-room-clause-room : goal.returns-in_err-room-clause-room
 returns-in_err-room-clause-room g c =
     let e = err_from_is_err_and c.from_residual.result c.from_residual.ensures.1 in
     rw e.1 tt
+
+pub returns-in_err-room-clause-log : goal.returns-in_err-room-clause-log
+returns-in_err-room-clause-log g c =
+    let e = err_from_is_err_and c.from_residual.result c.from_residual.ensures.1 in
+    rw e.1 (λ fine. (c.room.ensures.log, c.room.ensures.flushed))
+
+pub returns-in-Ok-clause-log : goal.returns-in-Ok-clause-log
+returns-in-Ok-clause-log g c = tt
+
+pub returns-in-Err-clause-log : goal.returns-in-Err-clause-log
+returns-in-Err-clause-log g c = λ fine. absurd (fine refl)
+
+pub returns-then-is_empty-clause-log : goal.returns-then-is_empty-clause-log
+returns-then-is_empty-clause-log g c = tt

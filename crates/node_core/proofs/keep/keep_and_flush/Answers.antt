@@ -158,3 +158,17 @@ pub returns-in_err-room-clause-room : goal.returns-in_err-room-clause-room
 returns-in_err-room-clause-room g c =
     let e = err_from_is_err_and c.from_residual.result c.from_residual.ensures.1 in
     rw e.1 tt
+
+pub returns-in_err-room-clause-log : goal.returns-in_err-room-clause-log
+returns-in_err-room-clause-log g c =
+    let e = err_from_is_err_and c.from_residual.result c.from_residual.ensures.1 in
+    rw e.1 (λ fine. (c.room.ensures.log, c.room.ensures.flushed))
+
+pub returns-in-Ok-clause-log : goal.returns-in-Ok-clause-log
+returns-in-Ok-clause-log g c = tt
+
+pub returns-in-Err-clause-log : goal.returns-in-Err-clause-log
+returns-in-Err-clause-log g c = λ fine.
+    let error = call_memory c.in-Err.error c.as_room_error.result c.as_room_error.ensures.failed fine in
+    let same = c.in-Err.ensures.no_memory_log (ap (λ (x : CallError). let r : Result ℕ CallError = Err x in r) error) in
+    (same.0 ∙ c.room.ensures.log, same.1 ∙ c.room.ensures.flushed)

@@ -191,3 +191,19 @@ returns-clause-spared g c = c.keep.ensures.spared
 
 pub returns-clause-any_moment : goal.returns-clause-any_moment
 returns-clause-any_moment g c = c.keep.ensures.any_moment
+
+pub returns-in_err-flush_with-clause-log : goal.returns-in_err-flush_with-clause-log
+returns-in_err-flush_with-clause-log g c =
+    let e = err_from_is_err_and c.from_residual.result c.from_residual.ensures.1 in
+    rw e.1 (λ fine. c.in_err-flush_with.ensures.log (λ told. fine (sym e.1 ∙ hands_on e told)))
+
+pub returns-in_err-keep-clause-log : goal.returns-in_err-keep-clause-log
+returns-in_err-keep-clause-log g c =
+    let e = err_from_is_err_and c.from_residual-in_err-keep.result c.from_residual-in_err-keep.ensures.1 in
+    rw e.1 (λ fine. c.in_err-keep.ensures.log (λ told. fine (sym e.1 ∙ hands_on e told)))
+
+pub returns-then-flushes-clause-log : goal.returns-then-flushes-clause-log
+returns-then-flushes-clause-log g c = tt
+
+pub returns-clause-log : goal.returns-clause-log
+returns-clause-log g c = tt

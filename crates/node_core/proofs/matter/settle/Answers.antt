@@ -13,7 +13,7 @@ use Rattle.node_core.proofs.matter.settle.Goals as goal
 pub loop-sent-init : goal.loop-sent-init
 loop-sent-init g c = record {
   along = along_none c.args.base.now _ _ (at c.args.work.now c.args.hints.now.now) c.requires.sound;
-  peeks = peeks_none _ _ _ _ _ _ _ c.args.replica.now (λ honest. g.met.R.Replica.is_safe c.args.replica.now honest c.requires.whole);
+  peeks = peeks_none _ _ _ _ _ _ _ _ c.args.replica.now (λ honest. g.met.R.Replica.is_safe c.args.replica.now honest c.requires.whole);
   whole = c.requires.whole;
   before = refl;
 }
@@ -32,7 +32,7 @@ loop-sent-preserved g c =
     record {
       along = along_more c.args.base.now g.R.Disk.Store.is_honest (g.R.Replica.durable c.args.replica.now) (at c.args.work.now c.args.hints.now.now) (at c.loop-sent.work c.loop-sent.hints.now) (at (record c.loop-sent.work { queue = c.pop_front.new.self }) c.loop-sent.hints.now) (at c.hear_own-heard.new.work c.hear_own-heard.new.hints.now) c.in-Some.sent c.loop-sent.invariant.along pops refl
           (by_at c.args.base.now g.R.Disk.Store.is_honest (g.R.Replica.durable c.loop-sent.replica) (g.R.Replica.durable c.args.replica.now) c.in-Some.sent (at (record c.loop-sent.work { queue = c.pop_front.new.self }) c.loop-sent.hints.now) (at c.hear_own-heard.new.work c.hear_own-heard.new.hints.now) (λ honest. (c.loop-sent.invariant.peeks.looked honest).same) c.in_ok-heard.ensures.ok);
-      peeks = peeks_on _ _ _ _ _ _ _ c.args.replica.now c.loop-sent.replica c.hear_own-heard.new.replica c.loop-sent.invariant.peeks c.hear_own-heard.ensures.peeks;
+      peeks = peeks_on _ _ _ _ _ _ _ _ c.args.replica.now c.loop-sent.replica c.hear_own-heard.new.replica c.loop-sent.invariant.peeks c.hear_own-heard.ensures.peeks;
       whole = whole;
       before = c.hear_own-heard.ensures.before ∙ c.loop-sent.invariant.before;
     }
@@ -46,7 +46,7 @@ returns-in_err-heard-clause-cut g c = λ failed s matters cut.
     (popped_cuts c.args.base.now g.R.Disk.Store.is_honest (g.R.Replica.durable c.args.replica.now) (at c.args.work.now c.args.hints.now.now) (at c.loop-sent.work c.loop-sent.hints.now) (at (record c.loop-sent.work { queue = c.pop_front.new.self }) c.loop-sent.hints.now) c.in-Some.sent c.loop-sent.invariant.along pops s matters cut)
 
 pub returns-in_err-heard-clause-peeks : goal.returns-in_err-heard-clause-peeks
-returns-in_err-heard-clause-peeks g c = peeks_on _ _ _ _ _ _ _ c.args.replica.now c.loop-sent.replica c.hear_own-heard.new.replica c.loop-sent.invariant.peeks c.hear_own-heard.ensures.peeks
+returns-in_err-heard-clause-peeks g c = peeks_on _ _ _ _ _ _ _ _ c.args.replica.now c.loop-sent.replica c.hear_own-heard.new.replica c.loop-sent.invariant.peeks c.hear_own-heard.ensures.peeks
 
 pub returns-clause-ok : goal.returns-clause-ok
 returns-clause-ok g c =

@@ -25,7 +25,7 @@ returns-clause-cut g c =
     λ failed honest. worked_cut c.args.base.now g.R.Disk.Store.is_honest (g.R.Replica.durable c.args.replica.now) _ (at c.args.work.now c.args.hints.now.now) (at c.give.new.self c.take.new.hints.now) c.settle.new.work first (c.settle.ensures.cut failed) honest
 
 pub returns-clause-peeks : goal.returns-clause-peeks
-returns-clause-peeks g c = peeks_on _ _ _ _ _ _ _ c.args.replica.now c.take.new.replica c.settle.new.replica c.in_ok-given.ensures.peeks c.settle.ensures.peeks
+returns-clause-peeks g c = peeks_on _ _ _ _ _ _ _ _ c.args.replica.now c.take.new.replica c.settle.new.replica c.in_ok-given.ensures.peeks c.settle.ensures.peeks
 
 pub returns-in_err-given-clause-cut : goal.returns-in_err-given-clause-cut
 returns-in_err-given-clause-cut g c = λ failed honest.

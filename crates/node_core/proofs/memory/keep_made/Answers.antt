@@ -290,3 +290,20 @@ returns-clause-spared g c = c.commit.ensures.spared
 
 pub returns-clause-ordered : goal.returns-clause-ordered
 returns-clause-ordered g c = c.take_begun.ensures.ordered
+
+pub returns-clause-log : goal.returns-clause-log
+returns-clause-log g c = λ on.
+    err_here c.commit.result c.in-Err.error _ c.in-Err.is c.commit.ensures.log (subst (λ (r : Result (Option ℕ) RoomError). IsErrOf r room_error.Failed → ⊥) (sym c.in-Err.is) (fine c.args.memory.now.made.started c.args.memory.now.made.work.entries c.in-Err.error c.refusal.result (subst (λ (w : Work). IsRefusal c.in-Err.error c.args.memory.now.made.started w.entries c.refusal.result) c.entry_of.ensures.work c.refusal.ensures) on))
+
+pub returns-in_err-entry-clause-log : goal.returns-in_err-entry-clause-log
+returns-in_err-entry-clause-log g c =
+    let e = err_from_is_err_and c.from_residual.result c.from_residual.ensures.1 in
+    rw e.1 (λ on. (refl, refl))
+
+pub returns-in_err-began-clause-log : goal.returns-in_err-began-clause-log
+returns-in_err-began-clause-log g c =
+    let e = err_from_is_err_and c.from_residual-in_err-began.result c.from_residual-in_err-began.ensures.1 in
+    rw e.1 (λ on. (refl, refl))
+
+pub returns-in-Ok-clause-log : goal.returns-in-Ok-clause-log
+returns-in-Ok-clause-log g c = tt

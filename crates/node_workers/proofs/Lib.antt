@@ -1,0 +1,6 @@
+pub mod CallChains
+mod DeskLaws
+mod AtLock
+pub mod LinkTakes
+mod Workings
+mod ToldLaws

@@ -1,0 +1,12 @@
+use Rattle.std.proofs.Common.{map}
+use Rattle.node_lock.specs.Passes.{view_of, start_of}
+use Rattle.node_workers.specs.Deliveries.{call_in}
+use Rattle.node_workers.proofs.CallChains.{calls_leave}
+use Rattle.node_workers.proofs.delivering.link_worker.Goals as goal
+
+pub returns-clause-pass : goal.returns-clause-pass
+returns-clause-pass g c =
+    let leaves =
+    calls_leave g.N.Stepper.steps g.N.Stepper.event_of g.N.Stepper.reply_of g.N.Stepper.refuses (start_of c.args.lock.now)
+    (view_of c.args.pass.now) (view_of c.deliver_all.new.pass) (map call_in c.deliver_all.ensures.delivers.deliveries) c.deliver_all.ensures.delivers.made in
+    leaves.pass

@@ -1,0 +1,12 @@
+use Rattle.std.proofs.Common.{◌≡◌, length}
+use Rattle.node_lock.specs.Passes.{IsPassOf, view_of, start_of}
+use Rattle.node_workers.specs.Endings.{well}
+use Rattle.node_workers.specs.Deliveries.{Delivers}
+use Rattle.node_workers.proofs.delivering.take_round.Given as goal
+
+abbrev pub invariant-loop-place : goal.invariant-loop-place
+invariant-loop-place g l = record {
+  pass : IsPassOf l.site.lock.now l.pass;
+  places : l.place-end ≡ length l.initial.receivers;
+  delivers : Delivers g.N.Stepper.steps g.N.Stepper.event_of g.N.Stepper.reply_of g.N.Stepper.refuses (start_of l.site.lock.now) (g.C.Clock.gives l.site.clock.now) l.initial.receivers (view_of l.initial.pass) l.receivers (view_of l.pass) well;
+}

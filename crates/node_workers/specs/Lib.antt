@@ -1,0 +1,9 @@
+pub mod Calls
+pub mod Chains
+pub mod Asking
+pub mod Desks
+pub mod Endings
+pub mod Taking
+pub mod Deliveries
+pub mod Repeating
+pub mod Told

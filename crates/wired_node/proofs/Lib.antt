@@ -1,0 +1,6 @@
+mod Given
+mod Histories
+mod Pieces
+mod Puts
+mod Since
+mod Taking

@@ -1,0 +1,15 @@
+//! A node as it stands under a lock. A step takes an event, puts the node's messages into their links, keeps the answers that it
+//! tells, and gives an answer that is collected.
+#![tactic(auto)]
+
+mod answers;
+mod entry;
+mod laws;
+mod linked;
+mod senders;
+mod wired;
+
+pub use entry::NodeEntry;
+pub use laws::{answers_are_given_once, messages_are_put};
+pub use senders::NodeSender;
+pub use wired::Wired;
