@@ -103,6 +103,10 @@ impl<'a, W: Wait, N: Stepper<Event = NodeCall, Reply = NodeReply>, C: Clock> Des
     ghost use Rattle.node_workers.specs.declared.parts.DeskParts.{DeskParts};
     ghost use Rattle.peer_messages.specs.declared.event.What.TheVariants.{Client, Collect};
 
+    type Home = (Site<'a, W, N, C>, Snapshot<Pass<N>>);
+
+    ghost home = { λ (d : DeskParts W N C N.Entry). record { 0 = d.site; 1 = d.since } };
+
     ghost asks = { λ (d : DeskParts W N C N.Entry). asks_at d };
 
     fn submit(&mut self, ask: Ask) -> Result<ReqId, Answer>

@@ -21,6 +21,7 @@ pub use ended::Ended;
 pub use laws::{asks_are_told, calls_leave_entries};
 pub use receivers::Receivers;
 pub use repeating::{merge_worker, timer_worker};
+pub use site::Site;
 
 #[cfg(test)]
 mod tests;

@@ -4,6 +4,7 @@ use Rattle.std.specs.List.{All, flat_map}
 use Rattle.std.proofs.lemmas.List.{append-nil}
 use Rattle.std.proofs.lemmas.List.Elements.{All-append, All-nil, All-tail}
 use Rattle.client_desk.specs.Asks.{Asked}
+use Rattle.client_desk.specs.declared.answer.Answer.{Answer}
 use Rattle.frame_v4.specs.Framer.{State as FramerState, fresh as fresh_framer}
 use Rattle.frame_v4.specs.Spelling.{request_bytes}
 use Rattle.frame_v4.specs.Stream.{Splits, Reads, nothing}
@@ -14,9 +15,9 @@ use Rattle.frame_v4.proofs.Streams.{goes_on}
 use Rattle.frame_v4.proofs.Totality.{each_is_read}
 use Rattle.schema_book.specs.Books.{Book}
 use Rattle.session_v4.specs.Sessions.{State, fresh}
-use Rattle.serve_loop.specs.Conversations.{AnswersFront, IsCutBehind, BreaksOff, IsHeard, IsAtEnd, Ends, IsConversation}
+use Rattle.serve_loop.specs.Conversations.{AnswersFront, EndsAsking, IsCutBehind, BreaksOff, IsHeard, IsAtEnd, Ends, IsConversation}
 use Rattle.serve_loop.specs.Exchanges.{Exchanges, untaken}
-use Rattle.serve_loop.specs.Steps.{Writes, EndsAt, EndsAmong, EndsBehind, EndsIn, ClosesBy, TellsFront, ServesInput, Steps, IsInput, IsSound}
+use Rattle.serve_loop.specs.Steps.{Writes, IsAsked, EndsAt, EndsAmong, EndsBehind, EndsIn, ClosesBy, TellsFront, ServesInput, Steps, IsInput, IsSound}
 use Rattle.serve_loop.specs.declared.hearing.Input.{Input}
 use Rattle.serve_loop.specs.declared.hearing.Input.TheVariants as inputs
 use Rattle.serve_loop.specs.declared.served.Served.{Served}
@@ -110,27 +111,32 @@ module _ (b : Book) (left left' : Option (List ℕ)) (heard : List ℕ) (a : Lis
     is_written = refl;
   }
 
+  ended_asking : (f : Frame) (back : List Frame) (refusal : Option FrameError) (a' : List Asked) (x' : List ℕ) (answer : Option Answer)
+      → AnswersFront b heard a x s (f ∷ back) refusal → IsAsked answer s f a' → x' ≡ [] → EndsAsking b answer heard (a ++ a') (x ++ x')
+  ended_asking f back refusal a' x' answer front h unwritten =
+      let no_bytes : x ++ x' ≡ x = ap (λ (zs : List ℕ). x ++ zs) unwritten ∙ append-nil x in
+      record {
+        state = s;
+        frame = f;
+        back = back;
+        refusal = refusal;
+        waiting = h.waiting;
+        before = a;
+        ask = h.ask;
+        front = front_same b heard a a x (x ++ x') s (f ∷ back) refusal refl no_bytes front;
+        due = h.due;
+        answered = h.answered;
+        is_asked = ap (λ (zs : List Asked). a ++ zs) h.is_asked;
+      }
+
   ended_at : (end : Served) (raised : Bool) (f : Frame) (back : List Frame) (refusal : Option FrameError) (a' : List Asked) (x' : List ℕ)
       → AnswersFront b heard a x s (f ∷ back) refusal → EndsAt end raised s f a' x' → Ends b end raised left left' heard (a ++ a') (x ++ x')
   ended_at served.Ended raised f back refusal a' x' front (inl (unasked, unwritten, is)) =
       let no_asks : a ++ a' ≡ a = ap (λ (zs : List Asked). a ++ zs) unasked ∙ append-nil a in
       let no_bytes : x ++ x' ≡ x = ap (λ (zs : List ℕ). x ++ zs) unwritten ∙ append-nil x in
       inr (inl (record { state = s; back = f ∷ back; refusal = refusal; front = front_same b heard a (a ++ a') x (x ++ x') s (f ∷ back) refusal no_asks no_bytes front }, is))
-  ended_at served.Ended raised f back refusal a' x' front (inr (down, unwritten)) =
-      let no_bytes : x ++ x' ≡ x = ap (λ (zs : List ℕ). x ++ zs) unwritten ∙ append-nil x in
-      inr (inr (record {
-        state = s;
-        frame = f;
-        back = back;
-        refusal = refusal;
-        waiting = down.waiting;
-        before = a;
-        ask = down.ask;
-        front = front_same b heard a a x (x ++ x') s (f ∷ back) refusal refl no_bytes front;
-        due = down.due;
-        answered = down.answered;
-        is_asked = ap (λ (zs : List Asked). a ++ zs) down.is_asked;
-      }))
+  ended_at served.Ended raised f back refusal a' x' front (inr (inl down, unwritten)) = inr (inr (inl (ended_asking f back refusal a' x' _ front down unwritten)))
+  ended_at served.Ended raised f back refusal a' x' front (inr (inr (left_so, is), unwritten)) = inr (inr (inr (ended_asking f back refusal a' x' _ front left_so unwritten, is)))
   ended_at served.Closed raised f back refusal a' x' front h = absurd h
   ended_at served.LinkFault raised f back refusal a' x' front cut = breaks_off (f ∷ back) refusal a' x' front cut
   ended_at served.NoMemory raised f back refusal a' x' front cut = breaks_off (f ∷ back) refusal a' x' front cut

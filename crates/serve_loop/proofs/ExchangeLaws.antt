@@ -1,5 +1,5 @@
 -- Frames that are answered, one after another.
-use Rattle.std.proofs.Common.{◌≡◌, ◌+◌, ◌<◌, ◌≤◌, ◌⊎◌, ℕ, inl, inr, Bool, true, false, IsTrue, List, [], ◌∷◌, ◌++◌, length, get_or, take, drop, Option, Some, None, Ok, Err, refl, sym, ◌∙◌, ap, subst, append_assoc}
+use Rattle.std.proofs.Common.{◌≡◌, ◌+◌, ◌<◌, ◌≤◌, ◌⊎◌, ℕ, ℤ, inl, inr, Bool, true, false, IsTrue, List, [], ◌∷◌, ◌++◌, length, get_or, take, drop, Option, Some, None, Ok, Err, refl, sym, ◌∙◌, ap, subst, append_assoc}
 use Rattle.std.specs.Bool.{then_some}
 use Rattle.std.specs.declared.alloc.AllocError.{AllocError}
 use Rattle.std.proofs.lemmas.List.{append-nil, drop_more, take_all, take_more, take-append-drop}
@@ -31,9 +31,9 @@ unfound : (s : State) (f : Frame) (asked : List Asked) → IsUntold s f asked �
 unfound s f asked (at_frame e) = untaken e refl
 unfound s f asked (at_answer waiting ask due e) = untold waiting ask due e refl
 
-answered : (s s' : State) (f : Frame) (r : Response) (asks asks' : List Asked) (wrote wrote' : Option (List ℕ)) → Finds asks asks' s f (Ok (Some r)) s'
+answered : (s s' : State) (f : Frame) (raised : Bool) (r : Response) (asks asks' : List Asked) (wrote wrote' : Option (List ℕ)) → Finds asks asks' s f raised (Ok (Some r)) s'
     → SendsAll wrote wrote' f.stream r → Steps (λ asked bytes. IsExchange s f asked bytes s') asks asks' wrote wrote'
-answered s s' f r asks asks' wrote wrote' found sent = record {
+answered s s' f raised r asks asks' wrote wrote' found sent = record {
   asked = found.asked;
   bytes = sent.bytes;
   is_asked = found.is_after;
@@ -41,9 +41,9 @@ answered s s' f r asks asks' wrote wrote' found sent = record {
   comes_to = exchange_of s f r found.asked sent.bytes s' found.is_found sent.are_bytes;
 }
 
-cut_in_writing : (s s' : State) (f : Frame) (r : Response) (asks asks' : List Asked) (wrote wrote' : Option (List ℕ)) → Finds asks asks' s f (Ok (Some r)) s'
+cut_in_writing : (s s' : State) (f : Frame) (raised : Bool) (r : Response) (asks asks' : List Asked) (wrote wrote' : Option (List ℕ)) → Finds asks asks' s f raised (Ok (Some r)) s'
     → SendsFront wrote wrote' f.stream r → Steps (λ asked bytes. IsCut s f asked bytes) asks asks' wrote wrote'
-cut_in_writing s s' f r asks asks' wrote wrote' found sent = record {
+cut_in_writing s s' f raised r asks asks' wrote wrote' found sent = record {
   asked = found.asked;
   bytes = take sent.writes.count sent.bytes;
   is_asked = found.is_after;
@@ -51,9 +51,9 @@ cut_in_writing s s' f r asks asks' wrote wrote' found sent = record {
   comes_to = unwritten sent.bytes s' sent.writes.count (exchange_of s f r found.asked sent.bytes s' found.is_found sent.are_bytes) refl sent.writes.short;
 }
 
-cut_before_writing : (s s' : State) (f : Frame) (r : Response) (asks asks' : List Asked) (wrote wrote' : Option (List ℕ)) → Finds asks asks' s f (Ok (Some r)) s' → wrote' ≡ wrote
+cut_before_writing : (s s' : State) (f : Frame) (raised : Bool) (r : Response) (asks asks' : List Asked) (wrote wrote' : Option (List ℕ)) → Finds asks asks' s f raised (Ok (Some r)) s' → wrote' ≡ wrote
     → Steps (λ asked bytes. IsCut s f asked bytes) asks asks' wrote wrote'
-cut_before_writing s s' f r asks asks' wrote wrote' found same = record {
+cut_before_writing s s' f raised r asks asks' wrote wrote' found same = record {
   asked = found.asked;
   bytes = [];
   is_asked = found.is_after;
@@ -61,9 +61,9 @@ cut_before_writing s s' f r asks asks' wrote wrote' found same = record {
   comes_to = unsent s f r found.asked s' found.is_found;
 }
 
-pub cut_before_answer : (s s' : State) (f : Frame) (e : AllocError) (asks asks' : List Asked) (wrote : Option (List ℕ)) → Finds asks asks' s f (Err e) s'
+pub cut_before_answer : (s s' : State) (f : Frame) (raised : Bool) (e : AllocError) (asks asks' : List Asked) (wrote : Option (List ℕ)) → Finds asks asks' s f raised (Err e) s'
     → Steps (λ asked bytes. IsCut s f asked bytes) asks asks' wrote wrote
-cut_before_answer s s' f e asks asks' wrote found = record {
+cut_before_answer s s' f raised e asks asks' wrote found = record {
   asked = found.asked;
   bytes = [];
   is_asked = found.is_after;
@@ -80,16 +80,16 @@ pub stopped : (raised : Bool) (s s' : State) (f : Frame) (asks : List Asked) (wr
 stopped raised s s' f asks wrote is = stands (λ asked bytes. ServesFrame (Some served.Ended) raised s f asked bytes s') asks wrote (inl (refl, refl, is))
 
 -- what was found for a frame was told, or the connection ended
-pub told : (end : Option Served) (raised : Bool) (found : Option Response) (s s' : State) (f : Frame) (asks asks' : List Asked) (wrote wrote' : Option (List ℕ)) → Finds asks asks' s f (Ok found) s'
+pub told : (end : Option Served) (raised : Bool) (found : Option Response) (s s' : State) (f : Frame) (asks asks' : List Asked) (wrote wrote' : Option (List ℕ)) → Finds asks asks' s f raised (Ok found) s'
     → SendsFound found end wrote wrote' f.stream → Steps (λ asked bytes. ServesFrame end raised s f asked bytes s') asks asks' wrote wrote'
 told end raised None s s' f asks asks' wrote wrote' found h =
     let P : Option Served → Type 0 = λ e. Steps (λ asked bytes. ServesFrame e raised s f asked bytes s') asks asks' wrote wrote' in
     subst P (sym h.0) (record { asked = found.asked; bytes = []; is_asked = found.is_after; writes = writes_still wrote wrote' h.1; comes_to = inr (found.is_found, refl) })
-told None raised (Some r) s s' f asks asks' wrote wrote' found sent = answered s s' f r asks asks' wrote wrote' found sent
+told None raised (Some r) s s' f asks asks' wrote wrote' found sent = answered s s' f raised r asks asks' wrote wrote' found sent
 told (Some served.Ended) raised (Some r) s s' f asks asks' wrote wrote' found h = absurd h
 told (Some served.Closed) raised (Some r) s s' f asks asks' wrote wrote' found h = absurd h
-told (Some served.LinkFault) raised (Some r) s s' f asks asks' wrote wrote' found sent = cut_in_writing s s' f r asks asks' wrote wrote' found sent
-told (Some served.NoMemory) raised (Some r) s s' f asks asks' wrote wrote' found same = cut_before_writing s s' f r asks asks' wrote wrote' found same
+told (Some served.LinkFault) raised (Some r) s s' f asks asks' wrote wrote' found sent = cut_in_writing s s' f raised r asks asks' wrote wrote' found sent
+told (Some served.NoMemory) raised (Some r) s s' f asks asks' wrote wrote' found same = cut_before_writing s s' f raised r asks asks' wrote wrote' found same
 
 -- one step behind another
 pub steps_more : (P Q R : List Asked → List ℕ → Type 0) (asks mid asks' : List Asked) (wrote between wrote' : Option (List ℕ))
@@ -240,6 +240,14 @@ end_served raised input s asks wrote is =
     subst P (sym is) (stands (λ a x. ServesInput (Some served.Ended) raised inputs.End s a x s) asks wrote (refl, refl, refl))
 
 -- ---- the sign
+
+-- a frame for which nothing was found ends the connection
+pub ended_or_unraised : (end : Option Served) (raised : Bool) (found : Option Response) (before after : Option (List ℕ)) (stream : ℤ)
+    → (raised ≡ false) ⊎ (found ≡ None) → SendsFound found end before after stream → (raised ≡ false) ⊎ (end ≡ Some served.Ended)
+ended_or_unraised end raised found before after stream (inl e) h = inl e
+ended_or_unraised end raised found before after stream (inr e) h =
+    let P : Option Response → Type 0 = λ o. SendsFound o end before after stream in
+    let none : SendsFound None end before after stream = subst P e h in inr none.0
 
 -- a connection that goes on found the sign down
 pub unraised : (end : Option Served) (raised : Bool) → end ≡ None → (raised ≡ false) ⊎ (end ≡ Some served.Ended) → raised ≡ false

@@ -2,6 +2,7 @@
 use Rattle.std.specs.Prelude.{◌≡◌, ◌⊎◌, ℕ, ◌<◌, Bool, IsTrue, List, [], ◌∷◌, ◌++◌, length, take, Option, Some, None, IfSome}
 use Rattle.std.specs.Option.{option_map}
 use Rattle.client_desk.specs.Asks.{Asked}
+use Rattle.client_desk.specs.declared.answer.Answer.{Answer}
 use Rattle.client_desk.specs.declared.answer.Answer.TheVariants as answers
 use Rattle.frame_v4.specs.Stream.{Reads}
 use Rattle.frame_v4.specs.declared.error.FrameError.{FrameError}
@@ -53,8 +54,9 @@ pub record Stops (b : Book) (heard : List ℕ) (asked : List Asked) (written : L
   pub refusal : Option FrameError
   pub front : AnswersFront b heard asked written state back refusal
 
--- the node does not run that was asked for the first frame behind those that were answered
-pub record FindsDown (b : Book) (heard : List ℕ) (asked : List Asked) (written : List ℕ) : Type 0 where
+-- a node was asked for the first frame behind those that were answered, and its answer, or that there was none by then, is
+-- not told
+pub record EndsAsking (b : Book) (answer : Option Answer) (heard : List ℕ) (asked : List Asked) (written : List ℕ) : Type 0 where
   pub state : State
   pub frame : Frame
   pub back : List Frame
@@ -64,8 +66,16 @@ pub record FindsDown (b : Book) (heard : List ℕ) (asked : List Asked) (written
   pub ask : Asked
   pub front : AnswersFront b heard before written state (frame ∷ back) refusal
   pub due : IsDue state frame (acts.Submit ask.ask) waiting
-  pub answered : ask.answer ≡ Some (answers.Refused Down)
+  pub answered : ask.answer ≡ answer
   pub is_asked : asked ≡ before ++ ask ∷ []
+
+-- the node that was asked does not run
+abbrev pub FindsDown : Book → List ℕ → List Asked → List ℕ → Type 0
+FindsDown b heard asked written = EndsAsking b (Some (answers.Refused Down)) heard asked written
+
+-- the node that was asked had not answered
+abbrev pub LeavesUnanswered : Book → List ℕ → List Asked → List ℕ → Type 0
+LeavesUnanswered b heard asked written = EndsAsking b None heard asked written
 
 -- what comes behind the frames that were answered was taken in part, or not at all
 abbrev pub IsCutBehind : State → List Frame → Option FrameError → List Asked → List ℕ → Type 0
@@ -96,11 +106,13 @@ IsHeard left heard left' = IfSome left (λ bytes. (rest : List ℕ) × (bytes �
 abbrev pub IsAtEnd : Option (List ℕ) → Option (List ℕ) → Type 0
 IsAtEnd left left' = IfSome left (λ bytes. left' ≡ Some [])
 
--- how a conversation ends: the peer sends nothing more; the sign was raised; or the node does not run. A fault is answered
--- and closes the connection. A fault of the link, or want of memory, breaks it off
+-- how a conversation ends: the peer sends nothing more; the sign was raised, before the next frame or before the answer for
+-- it; or the node does not run. A fault is answered and closes the connection. A fault of the link, or want of memory, breaks
+-- it off
 abbrev pub Ends : Book → Served → (raised : Bool) → (left left' : Option (List ℕ)) → (heard : List ℕ) → List Asked → (written : List ℕ) → Type 0
 Ends b served.Ended raised left left' heard asked written =
     AnswersAll b heard asked written × IsAtEnd left left' ⊎ Stops b heard asked written × IsTrue raised ⊎ FindsDown b heard asked written
+    ⊎ LeavesUnanswered b heard asked written × IsTrue raised
 Ends b served.Closed raised left left' heard asked written = Closes b heard asked written
 Ends b served.LinkFault raised left left' heard asked written = BreaksOff b heard asked written
 Ends b served.NoMemory raised left left' heard asked written = BreaksOff b heard asked written

@@ -46,11 +46,11 @@ pub record SendsFront (before after : Option (List ℕ)) (stream : ℤ) (due : R
 
 -- ---- asking
 
--- a desk was asked once, and gave this answer
-pub record AsksOnce (before after : List Asked) (ask : Ask) (answer : Answer) : Type 0 where
+-- a desk was asked once, and gave this answer if there was one by then
+pub record AsksOnce (before after : List Asked) (ask : Ask) (answer : Option Answer) : Type 0 where
   pub asked : Asked
   pub is_ask : asked.ask ≡ ask
-  pub is_answer : asked.answer ≡ Some answer
+  pub is_answer : asked.answer ≡ answer
   pub is_after : after ≡ before ++ asked ∷ []
 
 -- what a client is told of an answer: nothing where its node does not run
@@ -59,10 +59,15 @@ Tells s answer (Ok (Some r)) s' = (answer ≢ answers.Refused Down) × IsAnswere
 Tells s answer (Ok None) s' = answer ≡ answers.Refused Down
 Tells s answer (Err e) s' = Unit {0}
 
-pub record AsksAndTells (before after : List Asked) (ask : Ask) (s : State) (told : Result (Option Response) AllocError) (s' : State) : Type 0 where
-  pub answer : Answer
+-- nothing is told where the sign was raised before there was an answer
+abbrev pub TellsIfAny : State → (raised : Bool) → Option Answer → Result (Option Response) AllocError → State → Type 0
+TellsIfAny s raised (Some answer) told s' = Tells s answer told s'
+TellsIfAny s raised None told s' = (told ≡ Ok None) × IsTrue raised
+
+pub record AsksAndTells (before after : List Asked) (ask : Ask) (s : State) (raised : Bool) (told : Result (Option Response) AllocError) (s' : State) : Type 0 where
+  pub answer : Option Answer
   pub asks : AsksOnce before after ask answer
-  pub tells : Tells s answer told s'
+  pub tells : TellsIfAny s raised answer told s'
 
 -- ---- what is due for a frame, once it is known
 
@@ -80,28 +85,32 @@ pub record DueByDesk (s : State) (f : Frame) (r : Response) (asked : List Asked)
   pub runs : answer ≢ answers.Refused Down
   pub told : IsAnswered waiting answer r s'
 
--- the node that was asked does not run
-pub record IsDown (s : State) (f : Frame) (asked : List Asked) : Type 0 where
+-- a node was asked, and its answer, or that there was none by then, is not told
+pub record IsAsked (answer : Option Answer) (s : State) (f : Frame) (asked : List Asked) : Type 0 where
   pub waiting : State
   pub ask : Asked
   pub due : IsDue s f (acts.Submit ask.ask) waiting
   pub is_asked : asked ≡ ask ∷ []
-  pub answered : ask.answer ≡ Some (answers.Refused Down)
+  pub answered : ask.answer ≡ answer
+
+-- the node that was asked does not run, or the sign was raised before it had answered
+abbrev pub GivesNone : State → (raised : Bool) → Frame → List Asked → Type 0
+GivesNone s raised f asked = IsAsked (Some (answers.Refused Down)) s f asked ⊎ IsAsked None s f asked × IsTrue raised
 
 -- there was no memory for the frame, or for a node's answer
 pub data IsUntold (s : State) (f : Frame) (asked : List Asked) : Type 0 where
   at_frame : asked ≡ [] → IsUntold s f asked
   at_answer : (waiting : State) (ask : Asked) → IsDue s f (acts.Submit ask.ask) waiting → asked ≡ ask ∷ [] → IsUntold s f asked
 
-abbrev pub IsFound : State → Frame → Result (Option Response) AllocError → List Asked → State → Type 0
-IsFound s f (Ok (Some r)) asked s' = DueAtOnce s f r asked s' ⊎ DueByDesk s f r asked s'
-IsFound s f (Ok None) asked s' = IsDown s f asked
-IsFound s f (Err e) asked s' = IsUntold s f asked
+abbrev pub IsFound : State → Frame → (raised : Bool) → Result (Option Response) AllocError → List Asked → State → Type 0
+IsFound s f raised (Ok (Some r)) asked s' = DueAtOnce s f r asked s' ⊎ DueByDesk s f r asked s'
+IsFound s f raised (Ok None) asked s' = GivesNone s raised f asked
+IsFound s f raised (Err e) asked s' = IsUntold s f asked
 
-pub record Finds (before after : List Asked) (s : State) (f : Frame) (found : Result (Option Response) AllocError) (s' : State) : Type 0 where
+pub record Finds (before after : List Asked) (s : State) (f : Frame) (raised : Bool) (found : Result (Option Response) AllocError) (s' : State) : Type 0 where
   pub asked : List Asked
   pub is_after : after ≡ before ++ asked
-  pub is_found : IsFound s f found asked s'
+  pub is_found : IsFound s f raised found asked s'
 
 -- ---- one frame
 
@@ -116,7 +125,7 @@ SendsFound (Some r) (Some served.NoMemory) before after stream = after ≡ befor
 
 -- how a connection ends at a frame
 abbrev pub EndsAt : Served → Bool → State → Frame → List Asked → List ℕ → Type 0
-EndsAt served.Ended raised s f asked bytes = (asked ≡ []) × (bytes ≡ []) × IsTrue raised ⊎ IsDown s f asked × (bytes ≡ [])
+EndsAt served.Ended raised s f asked bytes = (asked ≡ []) × (bytes ≡ []) × IsTrue raised ⊎ GivesNone s raised f asked × (bytes ≡ [])
 EndsAt served.Closed raised s f asked bytes = ⊥
 EndsAt served.LinkFault raised s f asked bytes = IsCut s f asked bytes
 EndsAt served.NoMemory raised s f asked bytes = IsCut s f asked bytes

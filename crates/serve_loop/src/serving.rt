@@ -35,6 +35,7 @@ fn serve_frames<R: Wait, L: Link, D: Desk, G: Gate, Q: StopSign>(
     requires { Q.has_answered stop.old ≡ false }
     ensures served { Steps (λ asked bytes. ServesFrames result (Q.has_answered stop.new) (state_in session.old) frames.now asked bytes (state_in session.new)) (D.asks desk.old) (D.asks desk.new) (L.written link.old) (L.written link.new) }
     ensures stop { (Q.has_answered stop.new ≡ false) ⊎ (result ≡ Some Served.Ended) }
+    ensures home { D.home desk.new ≡ D.home desk.old }
     ensures unread { L.remaining link.new ≡ L.remaining link.old }
     ensures counted { L.faults link.old ≤ L.faults link.new }
     ensures failed { result ≡ Some Served.LinkFault → HasRisen (L.faults link.old) (L.faults link.new) }
@@ -93,6 +94,7 @@ fn serve_decoded<R: Wait, L: Link, D: Desk, G: Gate, Q: StopSign>(
     requires fault { decoded.now.refusal ≢ Some framing.NoMemory }
     ensures served { Steps (λ asked bytes. ServesRead result (Q.has_answered stop.new) (state_in session.old) decoded.now.frames decoded.now.refusal asked bytes (state_in session.new)) (D.asks desk.old) (D.asks desk.new) (L.written link.old) (L.written link.new) }
     ensures stop { (Q.has_answered stop.new ≡ false) ⊎ (result ≡ Some Served.Ended) }
+    ensures home { D.home desk.new ≡ D.home desk.old }
     ensures unread { L.remaining link.new ≡ L.remaining link.old }
     ensures counted { L.faults link.old ≤ L.faults link.new }
     ensures failed { result ≡ Some Served.LinkFault → HasRisen (L.faults link.old) (L.faults link.new) }
@@ -120,6 +122,7 @@ fn serve_input<R: Wait, L: Link, D: Desk, G: Gate, Q: StopSign>(
     requires sound { IsSound input.now }
     ensures served { Steps (λ asked bytes. ServesInput result (Q.has_answered stop.new) input.now (state_in session.old) asked bytes (state_in session.new)) (D.asks desk.old) (D.asks desk.new) (L.written link.old) (L.written link.new) }
     ensures stop { (Q.has_answered stop.new ≡ false) ⊎ (result ≡ Some Served.Ended) }
+    ensures home { D.home desk.new ≡ D.home desk.old }
     ensures unread { L.remaining link.new ≡ L.remaining link.old }
     ensures counted { L.faults link.old ≤ L.faults link.new }
     ensures failed { result ≡ Some Served.LinkFault → HasRisen (L.faults link.old) (L.faults link.new) }
@@ -134,8 +137,9 @@ fn serve_input<R: Wait, L: Link, D: Desk, G: Gate, Q: StopSign>(
 /// Serves the client of a link, until it sends nothing more, is told a fault of its stream, or the stop sign is raised; its
 /// requests go to the desk, one after another, and pass the gate as the node's.
 ///
-/// The sign is looked at before each frame, and where the peer sends nothing. A request that was submitted is waited for, and
-/// its response is written before the connection ends, unless the link fails or memory runs out.
+/// The sign is looked at before each frame, where the peer sends nothing, and where a request has no answer yet: the last
+/// request of a connection that ends so may stay without an answer. One that was answered has its response written before the
+/// connection ends, unless the link fails or memory runs out.
 pub fn serve_connection<R: Wait, L: Link, D: Desk, G: Gate, Q: StopSign>(
     rt: &R,
     alloc: Global,
@@ -155,6 +159,9 @@ pub fn serve_connection<R: Wait, L: Link, D: Desk, G: Gate, Q: StopSign>(
     ensures stopped { IsTrue (Q.has_answered stop.new) → result ≡ Served.Ended }
     ensures counted { L.faults link.old ≤ L.faults link.new }
     ensures failed { result ≡ Served.LinkFault → HasRisen (L.faults link.old) (L.faults link.new) }
+
+    // It is the same desk.
+    ensures home { D.home desk.new ≡ D.home desk.old }
 {
     let Ok(mut buffer) = vec![in alloc; 0; PIECE] else {
         return Served::NoMemory;

@@ -64,6 +64,11 @@ impl<R: MemReplica> Desk for StepDesk<R> {
     ghost use Rattle.client_desk.specs.Asks.{Submits, IsAwaited, Collects};
     ghost use Rattle.step_desk.specs.Calls.{AsksNode, AnswersFor};
 
+    // There is one desk at a cluster, and nobody has to know it again.
+    type Home = ();
+
+    ghost home = { λ (d : DeskState). tt };
+
     ghost asks = { λ (d : DeskState). d.asks };
 
     fn submit(&mut self, ask: Ask) -> Result<ReqId, Answer>

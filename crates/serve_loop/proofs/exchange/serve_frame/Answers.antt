@@ -10,9 +10,9 @@ returns-then-raised-clause-served g c =
 
 pub returns-in-Ok-clause-served : goal.returns-in-Ok-clause-served
 returns-in-Ok-clause-served g c =
-    told c.tell.result (g.Q.StopSign.has_answered c.raised.new.self) c.in-Ok.found (state_in c.args.session.now) (state_in c.response_to.new.session) c.args.frame.now (g.D.Desk.asks c.args.desk.now) (g.D.Desk.asks c.response_to.new.desk)
-    (g.L.Link.written c.args.link.now) (g.L.Link.written c.tell.new.link) c.in-Ok.ensures c.tell.ensures.told
+    told c.tell.result (g.Q.StopSign.has_answered c.response_to.new.stop) c.in-Ok.found (state_in c.args.session.now) (state_in c.response_to.new.session) c.args.frame.now (g.D.Desk.asks c.args.desk.now) (g.D.Desk.asks c.response_to.new.desk)
+    (g.L.Link.written c.args.link.now) (g.L.Link.written c.tell.new.link) c.in-Ok.ensures.finds c.tell.ensures.told
 
 pub returns-in-Err-clause-served : goal.returns-in-Err-clause-served
 returns-in-Err-clause-served g c =
-    cut_before_answer (state_in c.args.session.now) (state_in c.response_to.new.session) c.args.frame.now _ (g.D.Desk.asks c.args.desk.now) (g.D.Desk.asks c.response_to.new.desk) (g.L.Link.written c.args.link.now) c.in-Err.ensures
+    cut_before_answer (state_in c.args.session.now) (state_in c.response_to.new.session) c.args.frame.now (g.Q.StopSign.has_answered c.response_to.new.stop) _ (g.D.Desk.asks c.args.desk.now) (g.D.Desk.asks c.response_to.new.desk) (g.L.Link.written c.args.link.now) c.in-Err.ensures.finds

@@ -1,4 +1,4 @@
-use Rattle.std.proofs.Common.{◌≤◌, None, Some, Err, refl, ap, arith}
+use Rattle.std.proofs.Common.{◌≤◌, None, Some, Err, refl, ap, arith, ◌∙◌}
 use Rattle.session_v4.specs.Sessions.{state_in}
 use Rattle.serve_loop.specs.declared.served.Served.{Served}
 use Rattle.serve_loop.proofs.ConversationLaws.{going_on_from, ended_unbegun, ended_unheard, ended_heard, ended_unserved, goes_on_heard, input_is_sound}
@@ -16,6 +16,7 @@ loop-init g c = record {
       going_on_from c.args.schema.now (g.L.Link.remaining c.args.link.now) (g.D.Desk.asks c.args.desk.now) (g.L.Link.written c.args.link.now) c.new-framer.result (state_in c.new-session.result)
       c.new-framer.ensures c.new-session.ensures;
   unraised = c.requires;
+  home = refl;
   counted = omega arith;
 }
 
@@ -59,6 +60,7 @@ loop-preserved g c = record {
       (g.L.Link.written c.hear.new.link) (g.L.Link.written c.serve_input.new.link) (g.D.Desk.asks c.serve_input.new.desk) c.hear.new.framer (state_in c.serve_input.new.session) c.in-Ok-hear.input
       c.in-Ok-hear.ensures.input c.in-Ok-hear.ensures.unwritten c.in_default-serve_input.ensures.unread c.in_default-serve_input.ensures.served;
   unraised = unraised None (g.Q.StopSign.has_answered c.serve_input.new.stop) refl c.in_default-serve_input.ensures.stop;
+  home = c.in_default-serve_input.ensures.home ∙ c.loop.invariant.home;
   counted = omega (arith, c.loop.invariant.counted, c.in-Ok-hear.ensures.counted, c.in_default-serve_input.ensures.counted);
 }
 
@@ -66,3 +68,12 @@ pub returns-clause-conversation : goal.returns-clause-conversation
 returns-clause-conversation g c =
     ended_unserved c.args.schema.now (g.L.Link.remaining c.args.link.now) (g.L.Link.remaining c.loop.link) (g.D.Desk.asks c.args.desk.now) (g.D.Desk.asks c.loop.desk) (g.L.Link.written c.args.link.now) (g.L.Link.written c.loop.link)
     c.loop.framer (state_in c.loop.session) c.loop.invariant.going (g.Q.StopSign.has_answered c.loop.stop)
+
+pub returns-in-Some-clause-home : goal.returns-in-Some-clause-home
+returns-in-Some-clause-home g c = c.in-Some.ensures.home ∙ c.loop.invariant.home
+
+pub returns-in-Err-clause-home : goal.returns-in-Err-clause-home
+returns-in-Err-clause-home g c = c.loop.invariant.home
+
+pub returns-clause-home : goal.returns-clause-home
+returns-clause-home g c = c.loop.invariant.home

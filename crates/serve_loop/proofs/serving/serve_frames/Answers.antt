@@ -16,6 +16,7 @@ loop-frame-preserved g c = record {
       (state_in c.args.session.now) (state_in c.loop-frame.session) (state_in c.serve_frame.new.session) (g.D.Desk.asks c.args.desk.now) (g.D.Desk.asks c.loop-frame.desk) (g.D.Desk.asks c.serve_frame.new.desk)
       (g.L.Link.written c.args.link.now) (g.L.Link.written c.loop-frame.link) (g.L.Link.written c.serve_frame.new.link) c.loop-frame-test.true c.frame-item.is c.loop-frame.invariant.served c.in_default.ensures.served;
   unraised = unraised None (g.Q.StopSign.has_answered c.serve_frame.new.stop) refl c.in_default.ensures.stop;
+  home = c.in_default.ensures.home ∙ c.loop-frame.invariant.home;
   unread = c.in_default.ensures.unread ∙ c.loop-frame.invariant.unread;
   counted = omega (arith, c.loop-frame.invariant.counted, c.in_default.ensures.counted);
 }
