@@ -3,12 +3,14 @@
 #![tactic(auto)]
 
 mod answers;
+mod crossing;
 mod entry;
 mod laws;
 mod linked;
 mod senders;
 mod wired;
 
+pub use crossing::crosses_threads;
 pub use entry::NodeEntry;
 pub use laws::{answers_are_given_once, messages_are_put};
 pub use senders::NodeSender;
