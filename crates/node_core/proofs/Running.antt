@@ -1,5 +1,5 @@
 -- A node with what it has in memory, by whether it runs.
-use Rattle.std.proofs.Common.{◌≡◌, Bool, true, false, Ok, Err, IsErrOf, IfOk, OnErr, sym, ap, subst, ◌∙◌}
+use Rattle.std.proofs.Common.{◌≡◌, Bool, true, false, Ok, Err, IsErrOf, IfOk, OnOk, OnErr, sym, ap, subst, ◌∙◌}
 use Rattle.std.specs.Prelude.{not}
 use Rattle.peer_messages.specs.declared.event.Event.{Event}
 use Rattle.durable_state.specs.State.{Durable}
@@ -25,6 +25,10 @@ on_told r s is run = goes_on r (ap not (sym is) ∙ run)
 
 pub run_told : (r : Told) (s : Bool) → s ≡ has_stopped r → NotFailed r → not s ≡ true
 run_told r s is on = ap not is ∙ still_on r on
+
+pub goes_told : (r : Told) (s : Bool) → s ≡ has_stopped r → OnOk r (not s ≡ true)
+goes_told (Ok o) s is = ap not is
+goes_told (Err e) s is = tt
 
 pub steps_told : (r : Told) (s : Bool) (m m' : Memory) (n : Core) (d d' : Durable) (e : Event) (honest : Type 0) → s ≡ has_stopped r → core_of m ≡ n → IfOk r (λ o. honest → Steps (core_of m) d e o (core_of m') d')
     → IfOk r (λ o. honest → Steps n d e o (core_if m' (not s)) d')

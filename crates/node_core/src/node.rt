@@ -142,6 +142,7 @@ impl NodeCore {
         requires tied { self.old.runs ≡ true → R.Disk.is_honest → IsKeptOf (R.durable replica.old) self.old.kept }
 
         ensures runs { OnOk result (self.old.runs ≡ true) }
+        ensures goes_on { OnOk result (self.new.runs ≡ true) }
         ensures ok { IfOk result (λ outputs. R.Disk.is_honest → Steps self.old (R.durable replica.old) event.old outputs self.new (R.durable replica.new)) }
         ensures whole { self.new.runs ≡ true → R.is_whole replica.new }
         ensures tied { self.new.runs ≡ true → R.Disk.is_honest → IsKeptOf (R.durable replica.new) self.new.kept }
@@ -199,6 +200,7 @@ impl<R: Replica> Node<R> {
 
         ensures failed { (s : _) → IsErrOf result (load_error.Failed s) → HasRisen (R.Disk.faults store) (R.Disk.faults s) }
         ensures damaged { (s : _) (f p : ℕ) → IsErrOf result (load_error.Damaged s f p) → R.Disk.is_honest → R.is_damaged (R.Disk.disk store).seen f p }
+        ensures faults { IfOk result (λ n. R.Disk.faults store ≤ R.Disk.faults (R.disk n.replica)) }
         ensures surely { ((n : ℕ) → R.Disk.spares store n) → ((s : _) → IsErrOf result (load_error.Failed s) → ⊥) × IfOk result (λ l. (n : ℕ) → R.Disk.spares (R.disk l.replica) n) }
     {
         what_fits_is_tested();
@@ -219,6 +221,7 @@ impl<R: Replica> Node<R> {
         requires tied { self.old.core.runs ≡ true → R.Disk.is_honest → IsKeptOf (R.durable self.old.replica) self.old.core.kept }
 
         ensures runs { OnOk result (self.old.core.runs ≡ true) }
+        ensures goes_on { OnOk result (self.new.core.runs ≡ true) }
         ensures ok { IfOk result (λ outputs. R.Disk.is_honest → Steps self.old.core (R.durable self.old.replica) event outputs self.new.core (R.durable self.new.replica)) }
         ensures whole { self.new.core.runs ≡ true → R.is_whole self.new.replica }
         ensures tied { self.new.core.runs ≡ true → R.Disk.is_honest → IsKeptOf (R.durable self.new.replica) self.new.core.kept }

@@ -1,3 +1,4 @@
+mod Failing
 mod Given
 mod Histories
 mod Pieces

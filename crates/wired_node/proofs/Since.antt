@@ -26,6 +26,9 @@ use Rattle.wired_node.specs.States.{IsSince, Parts, Wiring, parts_with}
 abbrev pub showing : Parts → Durable → ℕ → Option ℕ → Disk → ℕ → Parts
 showing q d log_end since_flush disk faults = record q { durable = d; log_end = log_end; since_flush = since_flush; disk = disk; faults = faults }
 
+no_fewer : (before mid now : ℕ) → before ≤ mid → mid ≤ now → before ≤ now
+no_fewer before mid now p r = omega arith
+
 -- behind calls that were refused
 pub record IsStill (honest : Type 0) (q : Parts) (d : Durable) (log_end : ℕ) (since_flush : Option ℕ) (count : ℕ) : Type 0 where
   pub durable : q.core.runs ≡ true → honest → d ≡ q.durable
@@ -53,6 +56,8 @@ module _ (honest : Type 0) (q : Parts) (d : Durable) (log_end : ℕ) (since_flus
   goes_since : (e : NodeEntry) (o : Outputs) (p' : Parts) → IsStill honest q d log_end since_flush faults → Goes honest (showing q d log_end since_flush disk faults) e o p' → Goes honest q e o p'
   goes_since e o p' still g = record {
     taken = taken_since e.call still g.taken;
+    runs = g.runs;
+    counted = no_fewer q.faults faults p'.faults still.faults g.counted;
     steps = λ is. subst (λ (x : Durable). Steps q.core x e.call.event o p'.core p'.durable) (still.durable g.taken.runs is) (g.steps is);
     within = g.within;
     room = λ is. subst (λ (n : ℕ). WouldKeep q.core q.durable e.call.event (HasRoom n q.durable)) (still.log g.taken.runs).0
@@ -68,6 +73,7 @@ module _ (honest : Type 0) (q : Parts) (d : Durable) (log_end : ℕ) (since_flus
   stops_since stands_for e l p' still on g = record {
     taken = taken_since e.call still g.taken;
     core = g.core;
+    counted = no_fewer q.faults faults p'.faults still.faults g.counted;
     cause = risen_since q.faults faults p'.faults still.faults on g.cause;
     halts = λ is. subst (λ (x : Durable). Halts q.core x e.call.event (remains l.started l.entries) stands_for p'.disk) (still.durable g.taken.runs is) (g.halts is);
     sent = g.sent;

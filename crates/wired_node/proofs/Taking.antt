@@ -1,5 +1,5 @@
 -- How a call comes to be taken, or refused.
-use Rattle.std.proofs.Common.{◌≡◌, ℕ, false, Result, Ok, Err, IfOk, IfErr, List, refl, sym, ap, subst, ◌∙◌}
+use Rattle.std.proofs.Common.{◌≡◌, ◌≤◌, ℕ, false, Result, Ok, Err, IfOk, IfErr, List, refl, sym, ap, subst, ◌∙◌}
 use Rattle.std.specs.Prelude.{IsOkAnd}
 use Rattle.cs_base.specs.Faults.{HasRisen}
 use Rattle.durable_state.specs.State.{Durable}
@@ -39,6 +39,7 @@ StopsBy honest stands_for p p' l event = honest → Halts p.core p.durable event
 
 pub record IsStopped (honest : Type 0) (stands_for : (ℕ → List ℕ) → Durable → Type 0) (p p' : Parts) (copy : Event) (l : Lost) : Type 0 where
   pub core : p'.core ≡ record p.core { runs = false }
+  pub counted : p.faults ≤ p'.faults
   pub cause : HasRisen p.faults p'.faults
   pub halts : honest → Halts p.core p.durable copy (remains l.started l.entries) stands_for p'.disk
 
@@ -48,6 +49,7 @@ stopped honest stands_for p p' call copy told l x copied is taken stop senders a
     subst (λ (t : Told). MakesBy honest stands_for p x.0 t p') (sym (failure.told_is ∙ is)) (record {
       taken = subst (λ (c : NodeCall). IsTaken p c) (sym failure.call_is) taken;
       core = stop.core;
+      counted = stop.counted;
       cause = stop.cause;
       halts = subst (λ (v : Event). StopsBy honest stands_for p p' l v) (copied ∙ ap (λ (c : NodeCall). c.event) (sym failure.call_is)) stop.halts;
       sent = failure.sent;

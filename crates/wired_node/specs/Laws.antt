@@ -1,6 +1,7 @@
 -- What whole histories of a locked node say.
-use Rattle.std.specs.Prelude.{◌≡◌, ◌++◌, ℕ, Bool, true, Option, Some, None, Result, Ok, Err, List, [], ◌∷◌, length, filter}
-use Rattle.std.specs.List.{flat_map}
+use Rattle.std.specs.Prelude.{◌≡◌, ◌≤◌, ◌++◌, ℕ, Bool, true, false, Option, Some, None, Result, Ok, Err, List, [], ◌∷◌, length, filter}
+use Rattle.std.specs.List.{AllByRecursion, flat_map}
+use Rattle.cs_base.specs.Faults.{HasRisen}
 use Rattle.cs_store.specs.Disk.{Disk}
 use Rattle.durable_state.specs.State.{Durable}
 use Rattle.cs_base.specs.declared.ids.ReqId.{ReqId}
@@ -15,6 +16,10 @@ use Rattle.wired_node.specs.Answers.{answer_of, collected_by, is_answer, is_answ
 use Rattle.wired_node.specs.Making.{MakesIn}
 use Rattle.wired_node.specs.Sending.{ArePut}
 use Rattle.wired_node.specs.States.{Wiring}
+
+-- the entry's reply does not tell that the node failed
+abbrev pub HasGone : ℕ × NodeEntry → Type 0
+HasGone x = x.1.reply.value.failed ≡ false
 
 abbrev pub sent_by : ℕ × NodeEntry → List (Message × Bool)
 sent_by x = x.1.sent.items
@@ -60,6 +65,17 @@ module _ {R : Type 0} (honest : Type 0) (stands_for : (ℕ → List ℕ) → Dur
       (start now : Wiring R) (history : List (ℕ × NodeEntry))
       → Replays (MakesIn honest stands_for durable log_end since_flush disk faults) start history now
       → ArePut (sent_in history) start.senders now.senders
+
+  -- From a running node to the state to which a history replays, its store had no fewer faults, and one more where the node runs no
+  -- longer; where it runs on, no entry tells that it failed.
+  abbrev pub FailuresAreCounted : Type 0
+  FailuresAreCounted =
+      (start now : Wiring R) (history : List (ℕ × NodeEntry))
+      → Replays (MakesIn honest stands_for durable log_end since_flush disk faults) start history now
+      → start.core.runs ≡ true
+      → (faults start.replica ≤ faults now.replica)
+      × (now.core.runs ≡ false → HasRisen (faults start.replica) (faults now.replica))
+      × (now.core.runs ≡ true → AllByRecursion HasGone history)
 
   -- From a state to that to which a history replays, what was kept before and what the history's entries answer is given once or kept,
   -- and nothing else is.

@@ -64,6 +64,8 @@ reply_of o given = record { started = o.started; answer = given; tables = o.tabl
 -- the node takes the event and gives these outputs
 pub record Goes (honest : Type 0) (p : Parts) (e : NodeEntry) (o : Outputs) (p' : Parts) : Type 0 where
   pub taken : IsTaken p e.call
+  pub runs : p'.core.runs ≡ true
+  pub counted : p.faults ≤ p'.faults
   pub steps : honest → Steps p.core p.durable e.call.event o p'.core p'.durable
   pub within : risen_time p.core.time e.call.event ≤ end_of_time
   pub room : honest → WouldKeep p.core p.durable e.call.event (HasRoom p.log_end p.durable)
@@ -82,6 +84,7 @@ failed_reply = record { started = None; answer = None; tables = None; failed = t
 pub record Stops (honest : Type 0) (stands_for : (ℕ → List ℕ) → Durable → Type 0) (p : Parts) (e : NodeEntry) (l : Lost) (p' : Parts) : Type 0 where
   pub taken : IsTaken p e.call
   pub core : p'.core ≡ record p.core { runs = false }
+  pub counted : p.faults ≤ p'.faults
   pub cause : HasRisen p.faults p'.faults
   pub halts : honest → Halts p.core p.durable e.call.event (remains l.started l.entries) stands_for p'.disk
   pub sent : e.sent.items ≡ []

@@ -12,6 +12,6 @@ mod wired;
 
 pub use crossing::crosses_threads;
 pub use entry::NodeEntry;
-pub use laws::{answers_are_given_once, messages_are_put};
+pub use laws::{answers_are_given_once, failures_are_counted, messages_are_put};
 pub use senders::NodeSender;
 pub use wired::Wired;

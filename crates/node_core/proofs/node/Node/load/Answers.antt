@@ -122,3 +122,14 @@ returns-in-Err-clause-failed g c = λ s told. absurd (no_memory_failed told)
 
 pub returns-in-Err-clause-damaged : goal.returns-in-Err-clause-damaged
 returns-in-Err-clause-damaged g c = λ s f p told. absurd (no_memory_damaged told)
+
+pub returns-in_err-replica-clause-faults : goal.returns-in_err-replica-clause-faults
+returns-in_err-replica-clause-faults g c =
+    let e = err_from_is_err_and c.from_residual.result c.from_residual.ensures.1 in
+    rw e.1 tt
+
+pub returns-in-Ok-clause-faults : goal.returns-in-Ok-clause-faults
+returns-in-Ok-clause-faults g c = c.in_ok-replica.ensures.faults
+
+pub returns-in-Err-clause-faults : goal.returns-in-Err-clause-faults
+returns-in-Err-clause-faults g c = tt

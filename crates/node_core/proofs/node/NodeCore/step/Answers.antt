@@ -2,7 +2,7 @@ use Rattle.std.proofs.Common.{refl, sym, subst, ◌∙◌}
 use Rattle.replica.specs.Kept.{IsKeptOf}
 use Rattle.node_core.specs.Nodes.{Core}
 use Rattle.node_core.proofs.Ending.{held_with, same_core, with_hints}
-use Rattle.node_core.proofs.Running.{back_settled, failed_told, log_told, on_told, others_told, running, same_told, steps_settled, steps_told}
+use Rattle.node_core.proofs.Running.{back_settled, failed_told, goes_told, log_told, on_told, others_told, running, same_told, steps_settled, steps_told}
 use Rattle.node_core.proofs.node.NodeCore.step.Goals as goal
 
 pub returns-clause-ok : goal.returns-clause-ok
@@ -23,6 +23,9 @@ returns-clause-failed g c = λ l told.
 
 pub returns-clause-others : goal.returns-clause-others
 returns-clause-others g c = others_told c.advance-result.result c.has_stopped.result c.has_stopped.ensures
+
+pub returns-clause-goes_on : goal.returns-clause-goes_on
+returns-clause-goes_on g c = goes_told c.advance-result.result c.has_stopped.result c.has_stopped.ensures
 
 pub returns-clause-whole : goal.returns-clause-whole
 returns-clause-whole g c = λ run. c.advance-result.ensures.whole (on_told c.advance-result.result c.has_stopped.result c.has_stopped.ensures run)
