@@ -12,7 +12,6 @@ ghost use Rattle.read_consistency.specs.ReadRight.{ReadRight};
 ghost use Rattle.reads_forward.specs.ReadsForward.{ReadsForward};
 
 use crate::annals::Annals;
-use crate::copies::copy_setting;
 use crate::error::ClusterError;
 use crate::event::ClusterEvent;
 use crate::mail::Mail;
@@ -21,6 +20,7 @@ use crate::seat::{Part, Seat};
 use chronicle_pieces::Piece;
 use cs_base::{Micros, NodeId};
 use cs_store::{MemStore, Outcome};
+use event_copies::copy_setting;
 use http_server::Log;
 use node_core::Node;
 use peer_messages::Setting;

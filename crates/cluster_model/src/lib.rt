@@ -4,7 +4,6 @@
 
 mod annals;
 mod cluster;
-mod copies;
 mod entering;
 mod error;
 mod event;

@@ -4,9 +4,9 @@ ghost use Rattle.std.specs.Prelude.{◌≡◌, ◌+◌, ◌++◌, ◌≤◌, ◌
 ghost use Rattle.cluster_model.specs.State.{place_of, oldest_from, with_sent, passed_at};
 ghost use Rattle.cluster_model.specs.Mails.{HoldsMail, post_of};
 
-use crate::copies::copy_message;
 use crate::routes::Routes;
 use cs_base::NodeId;
+use event_copies::copy_message;
 use peer_messages::{Message, Messages};
 use std::alloc::{AllocError, Global};
 

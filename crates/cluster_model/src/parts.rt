@@ -12,13 +12,13 @@ ghost use Rattle.cluster_model.specs.Sites.{keeper, MayTake, MayWake, IsSeat, At
 ghost use Rattle.cluster_model.specs.Holding.{Holds, state_of};
 
 use crate::annals::Annals;
-use crate::copies::copy_setting;
 use crate::event::ClusterEvent;
 use crate::seat::Seat;
 use crate::told::Told;
 use crate::turn::Turn;
 use cs_base::{Micros, NodeId};
 use cs_store::Outcome;
+use event_copies::copy_setting;
 use http_server::Log;
 use peer_messages::{Setting, What};
 use replica::MemReplica;

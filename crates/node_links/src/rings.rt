@@ -39,7 +39,8 @@ fn add<M: Drop>(alloc: Global, all: &mut Items<Link<M>>, from: u8, to: u8) -> Re
     Ok(())
 }
 
-fn link<M: Drop>(alloc: Global, from: u8, to: u8) -> Result<Link<M>, AllocError>
+/// A link between two nodes, with its memory.
+pub fn link<M: Drop>(alloc: Global, from: u8, to: u8) -> Result<Link<M>, AllocError>
     requires { (from < 7) × (to < 7) }
     ensures pair { IfOk result (λ made. ends_of made ≡ (from, to)) }
     ensures fresh { IfOk result IsFresh }

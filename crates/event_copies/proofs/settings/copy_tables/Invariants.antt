@@ -1,5 +1,5 @@
 use Rattle.std.proofs.Common.{◌≡◌, take}
-use Rattle.cluster_model.proofs.copies.copy_tables.Given as goal
+use Rattle.event_copies.proofs.settings.copy_tables.Given as goal
 
 abbrev pub invariant-loop-table : goal.invariant-loop-table
 invariant-loop-table l = l.copy ≡ take l.table-index l.tables
