@@ -7,4 +7,4 @@ mod rings;
 
 pub use ends::{Receiver, Sender};
 pub use link::{LINK_ROOM, Link};
-pub use rings::{link, links};
+pub use rings::{link_between, links};

@@ -34,13 +34,13 @@ fn add<M: Drop>(alloc: Global, all: &mut Items<Link<M>>, from: u8, to: u8) -> Re
     ensures fresh { OnOk result (All IsFresh all.old → All IsFresh all.new) }
 {
     if to != from {
-        all.push(link(alloc, from, to)?)?;
+        all.push(link_between(alloc, from, to)?)?;
     }
     Ok(())
 }
 
 /// A link between two nodes, with its memory.
-pub fn link<M: Drop>(alloc: Global, from: u8, to: u8) -> Result<Link<M>, AllocError>
+pub fn link_between<M: Drop>(alloc: Global, from: u8, to: u8) -> Result<Link<M>, AllocError>
     requires { (from < 7) × (to < 7) }
     ensures pair { IfOk result (λ made. ends_of made ≡ (from, to)) }
     ensures fresh { IfOk result IsFresh }

@@ -1,6 +1,6 @@
 -- What the faults of a node's store tell of a history.
 use Rattle.std.proofs.Common.{◌≡◌, ◌≤◌, ℕ, inl, inr, Bool, true, false, Option, Result, Ok, Err, List, [], ◌∷◌, refl, sym, ap, subst, ◌∙◌, arith}
-use Rattle.std.proofs.lemmas.Bool.{cases_lt}
+use Rattle.std.proofs.lemmas.Bool.{cases_lt, true≢false}
 use Rattle.std.specs.List.{AllByRecursion}
 use Rattle.cs_base.specs.Faults.{HasRisen}
 use Rattle.cs_store.specs.Disk.{Disk}
@@ -22,8 +22,7 @@ risen_before a b c p q (inl h) = inl (omega arith)
 risen_before a b c p q (inr h) = elim (cases_lt a c) [ inl less ↦ inl less | inr not_less ↦ inr (omega arith) ]
 
 runs_not : (runs : Bool) → runs ≡ true → runs ≡ false → ⊥
-runs_not true is ()
-runs_not false () other
+runs_not runs on off = true≢false (sym on ∙ off)
 
 -- what a step says of the node's going on
 record Counts (p : Parts) (e : NodeEntry) (p' : Parts) : Type 0 where
