@@ -12,7 +12,7 @@ use Rattle.node_lock.specs.Histories.{Replays}
 use Rattle.wired_node.specs.declared.entry.NodeEntry.{NodeEntry}
 use Rattle.wired_node.specs.Laws.{FailuresAreCounted, HasGone}
 use Rattle.wired_node.specs.Making.{MakesBy, MakesIn, IsTaken}
-use Rattle.wired_node.specs.States.{Parts, Wiring}
+use Rattle.wired_node.specs.States.{Parts, Wiring, parts_of}
 
 no_fewer : (a b c : ℕ) → a ≤ b → b ≤ c → a ≤ c
 no_fewer a b c p q = omega arith
@@ -55,26 +55,37 @@ module _ {R : Type 0} (honest : Type 0) (stands_for : (ℕ → List ℕ) → Dur
   no_more start now [] same stopped = (refl, same)
   no_more start now (x ∷ xs) (next, step, rest) stopped = absurd (runs_not start.core.runs (counts honest stands_for _ x.1 x.1.told.value _ step).ran stopped)
 
+  -- what is so of a history
+  abbrev AreCounted : Wiring R → Wiring R → List (ℕ × NodeEntry) → Type 0
+  AreCounted start now history =
+      (faults start.replica ≤ faults now.replica)
+      × (now.core.runs ≡ false → HasRisen (faults start.replica) (faults now.replica))
+      × (now.core.runs ≡ true → AllByRecursion HasGone history)
+
+  abbrev parts : Wiring R → Parts
+  parts w = parts_of durable log_end since_flush disk faults w
+
+  one_more : (start next now : Wiring R) (x : ℕ × NodeEntry) (xs : List (ℕ × NodeEntry)) → Counts (parts start) x.1 (parts next)
+      → Replays (MakesIn honest stands_for durable log_end since_flush disk faults) next xs now → (next.core.runs ≡ true → AreCounted next now xs)
+      → (on : Bool) → next.core.runs ≡ on → AreCounted start now (x ∷ xs)
+  one_more start next now x xs first rest more true is =
+      let behind = more is in (
+        no_fewer (faults start.replica) (faults next.replica) (faults now.replica) first.counted behind.0,
+        (λ stopped. risen_before (faults start.replica) (faults next.replica) (faults now.replica) first.counted behind.0 (behind.1 stopped)),
+        (λ on. (first.gone is, behind.2 on)),
+      )
+  one_more start next now x xs first rest more false is =
+      let none = no_more next now xs rest is in (
+        subst (λ (w : Wiring R). faults start.replica ≤ faults w.replica) none.1 first.counted,
+        (λ stopped. subst (λ (w : Wiring R). HasRisen (faults start.replica) (faults w.replica)) none.1 (first.cause is)),
+        (λ on. absurd (runs_not now.core.runs on (subst (λ (w : Wiring R). w.core.runs ≡ false) none.1 is))),
+      )
+
   pub all_counted : FailuresAreCounted honest stands_for durable log_end since_flush disk faults
   all_counted start now [] same runs = (
     subst (λ (w : Wiring R). faults start.replica ≤ faults w.replica) same (omega arith),
     (λ stopped. absurd (runs_not now.core.runs (subst (λ (w : Wiring R). w.core.runs ≡ true) same runs) stopped)),
     (λ on. tt),
   )
-  all_counted start now (x ∷ xs) (next, step, rest) runs = later next.core.runs refl
-    where
-      first = counts honest stands_for _ x.1 x.1.told.value _ step
-      later : (on : Bool) → next.core.runs ≡ on
-          → (faults start.replica ≤ faults now.replica) × (now.core.runs ≡ false → HasRisen (faults start.replica) (faults now.replica)) × (now.core.runs ≡ true → AllByRecursion HasGone (x ∷ xs))
-      later true is =
-          let behind = all_counted next now xs rest is in (
-            no_fewer (faults start.replica) (faults next.replica) (faults now.replica) first.counted behind.0,
-            (λ stopped. risen_before (faults start.replica) (faults next.replica) (faults now.replica) first.counted behind.0 (behind.1 stopped)),
-            (λ on. (first.gone is, behind.2 on)),
-          )
-      later false is =
-          let none = no_more next now xs rest is in (
-            subst (λ (w : Wiring R). faults start.replica ≤ faults w.replica) none.1 first.counted,
-            (λ stopped. subst (λ (w : Wiring R). HasRisen (faults start.replica) (faults w.replica)) none.1 (first.cause is)),
-            (λ on. absurd (runs_not now.core.runs on (subst (λ (w : Wiring R). w.core.runs ≡ false) none.1 is))),
-          )
+  all_counted start now (x ∷ xs) (next, step, rest) runs =
+      one_more start next now x xs (counts honest stands_for (parts start) x.1 x.1.told.value (parts next) step) rest (λ is. all_counted next now xs rest is) next.core.runs refl
