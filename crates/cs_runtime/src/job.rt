@@ -30,3 +30,11 @@ pub(crate) enum End<D: Drop> {
     Worked(D),
     Unstarted(D),
 }
+
+/// Jobs of which none was started, since there was no memory.
+#[derive(Drop)]
+pub struct NotRun<J: Drop, H: Drop> {
+    pub jobs: Vec<J>,
+    /// What was to be worked on the caller's thread.
+    pub here: H,
+}

@@ -11,7 +11,7 @@ mod starts;
 
 pub use clock::{Clock, SetClock, SysClock};
 pub use flag::FlagStop;
-pub use job::Job;
+pub use job::{Job, NotRun};
 pub use spawner::{ListSpawner, Spawner, ThreadSpawner};
 
 #[cfg(test)]

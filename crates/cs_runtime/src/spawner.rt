@@ -1,14 +1,13 @@
 //! Spawners of threads.
 
-ghost use Rattle.std.specs.Prelude.{◌≡◌, ℕ, ◌≤◌, List, [], IfOk, OnOk, OnErr, vec_len};
+ghost use Rattle.std.specs.Prelude.{◌≡◌, ℕ, ◌≤◌, List, [], IfOk, IfErr, OnOk, OnErr, vec_len};
 ghost use Rattle.std.specs.List.{AllZip};
 ghost use Rattle.cs_base.specs.Faults.{HasRisen};
 ghost use Rattle.cs_runtime.specs.Jobs.{Ends, EndsMarked, marked, starts_after};
 
-use crate::job::Job;
+use crate::job::{Job, NotRun};
 use crate::starts::run_all;
 use cs_base::Faults;
-use std::alloc::AllocError;
 use std::marker::Model;
 use std::sync::Wait;
 use std::thread::Threads;
@@ -47,18 +46,19 @@ pub trait Spawner {
     /// Starts each job in a thread of its own, in order, then works `here` on the caller's thread, and waits for all. It gives
     /// what was done in the order of the jobs.
     ///
-    /// Want of memory comes before any start, and hands nothing back.
+    /// Want of memory comes before any start, and gives all back.
     final fn run<J, H>(
         &mut self,
         jobs: Vec<J>,
         here: H,
-    ) -> Result<(Vec<J::Done>, H::Done), AllocError>
+    ) -> Result<(Vec<J::Done>, H::Done), NotRun<J, H>>
     where
         J: Job + Send,
         J::Done: Send,
         H: Job,
         ensures counted { faults self.old ≤ faults self.new }
         ensures err { OnErr result ((faults self.new ≡ faults self.old) × (starts self.new ≡ starts self.old)) }
+        ensures back { IfErr result (λ r. (r.jobs ≡ jobs) × (r.here ≡ here)) }
         ensures len { IfOk result (λ r. vec_len r.0 ≡ vec_len jobs) }
         ensures each { IfOk result (λ r. AllZip (Ends J.ends J.works J.unstarts (HasRisen (faults self.old) (faults self.new))) jobs.items r.0.items) }
         ensures here { IfOk result (λ r. H.ends here r.1 × H.works here r.1) }

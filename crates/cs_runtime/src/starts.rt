@@ -1,13 +1,13 @@
 //! Starts of threads.
 
-ghost use Rattle.std.specs.Prelude.{◌≡◌, ◌≤◌, [], length, map, IfOk, OnErr, vec_len, vec_capacity};
+ghost use Rattle.std.specs.Prelude.{◌≡◌, ◌≤◌, [], length, map, IfOk, IfErr, OnErr, vec_len, vec_capacity};
 ghost use Rattle.std.specs.List.{AllZip};
 ghost use Rattle.cs_base.specs.Faults.{HasRisen};
 ghost use Rattle.cs_runtime.specs.Begun.{begun_of};
 ghost use Rattle.cs_runtime.specs.Jobs.{EndsMarked, marked};
 
 use crate::begun::Begun;
-use crate::job::Job;
+use crate::job::{Job, NotRun};
 use cs_base::Faults;
 use std::alloc::{AllocError, Global};
 use std::sync::Wait;
@@ -124,7 +124,32 @@ where
     }
 }
 
-/// Starts the jobs, each in a thread of its own, works here, and waits for all. The starts of these numbers fail.
+/// The memory that a run of jobs takes.
+#[derive(Drop)]
+struct Room<J: Job> {
+    begun: Vec<Begun<J>>,
+    dones: Vec<J::Done>,
+    flags: Vec<AtomicBool>,
+}
+
+/// The memory for so many jobs.
+fn room_for<J: Job>(alloc: Global, count: usize) -> Result<Room<J>, AllocError>
+    ensures begun { IfOk result (λ r. (r.begun.items ≡ []) × (count ≤ vec_capacity r.begun)) }
+    ensures dones { IfOk result (λ r. (r.dones.items ≡ []) × (count ≤ vec_capacity r.dones)) }
+    ensures flags { IfOk result (λ r. vec_len r.flags ≡ count) }
+{
+    let begun = Vec::with_capacity(alloc, count)?;
+    let dones = Vec::with_capacity(alloc, count)?;
+    let flags = flags(alloc, count)?;
+    Ok(Room {
+        begun,
+        dones,
+        flags,
+    })
+}
+
+/// Starts the jobs, each in a thread of its own, works here, and waits for all. The starts of these numbers fail. Where there is no
+/// memory, nothing is started, and all is given back.
 pub(crate) fn run_all<R: Threads + Wait + Sync, J: Job, H: Job>(
     rt: &R,
     failing: &[u64],
@@ -132,19 +157,24 @@ pub(crate) fn run_all<R: Threads + Wait + Sync, J: Job, H: Job>(
     faults: &mut Faults,
     jobs: Vec<J>,
     here: H,
-) -> Result<(Vec<J::Done>, H::Done), AllocError>
+) -> Result<(Vec<J::Done>, H::Done), NotRun<J, H>>
 where
     J: Send,
     J::Done: Send,
     ensures counted { faults.old ≤ faults.new }
     ensures err { OnErr result (faults.new ≡ faults.old) }
+    ensures back { IfErr result (λ r. (r.jobs ≡ jobs) × (r.here ≡ here)) }
     ensures each { IfOk result (λ r. AllZip (EndsMarked J.ends J.works J.unstarts (HasRisen faults.old faults.new)) (marked failing.now starts jobs.items) r.0.items) }
     ensures here { IfOk result (λ r. H.ends here r.1 × H.works here r.1) }
 {
-    let alloc = *jobs.allocator();
-    let begun = Vec::with_capacity(alloc, jobs.len())?;
-    let dones = Vec::with_capacity(alloc, jobs.len())?;
-    let flags = flags(alloc, jobs.len())?;
+    let Ok(room) = room_for(*jobs.allocator(), jobs.len()) else {
+        return Err(NotRun { jobs, here });
+    };
+    let Room {
+        begun,
+        dones,
+        flags,
+    } = room;
     let ready = Ready {
         jobs,
         begun,

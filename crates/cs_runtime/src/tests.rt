@@ -112,7 +112,9 @@ fn run_meeting<S: Spawner, R: Wait + Sync>(
         met: &met,
         number: 0,
     };
-    let (dones, _) = spawner.run(jobs, here)?;
+    let Ok((dones, _)) = spawner.run(jobs, here) else {
+        return Err(AllocError);
+    };
     Ok((dones, met.into_inner()))
 }
 

@@ -1,0 +1,4 @@
+mod Handed
+mod Joined
+pub mod Seated
+mod Turns

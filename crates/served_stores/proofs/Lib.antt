@@ -1,0 +1,4 @@
+mod Lists
+pub mod Taking
+pub mod Backing
+mod Losing
