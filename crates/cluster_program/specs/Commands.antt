@@ -24,4 +24,4 @@ abbrev pub help_text : List ℕ
 help_text = codes "usage: script\nscript      reads a fault script from standard input, runs it, and writes its answers\n--help      writes this\n--version   writes the version, and the toolchain that it is proved with\n"
 
 abbrev pub version_text : List ℕ
-version_text = codes "biropuve 0.1.0, proved with rattle-kit-13f\n"
+version_text = codes "biropuve 0.1.0, proved with rattle-kit-13b\n"

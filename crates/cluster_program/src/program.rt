@@ -310,7 +310,7 @@ pub fn run_cluster<S: Source, T: Sink>(
             sink,
             b"usage: script\nscript      reads a fault script from standard input, runs it, and writes its answers\n--help      writes this\n--version   writes the version, and the toolchain that it is proved with\n",
         ),
-        Some(Command::Version) => tell(sink, b"biropuve 0.1.0, proved with rattle-kit-13f\n"),
+        Some(Command::Version) => tell(sink, b"biropuve 0.1.0, proved with rattle-kit-13b\n"),
         None => {
             leave_line(sink, b"usage: script\n");
             Status::Usage

@@ -365,7 +365,7 @@ fn tells_of_itself(rt: HostRuntime) -> Result<(), Fail> {
         (
             "--version",
             Status::Ok,
-            "biropuve 0.1.0, proved with rattle-kit-13f\n",
+            "biropuve 0.1.0, proved with rattle-kit-13b\n",
         ),
         ("--help --version", Status::Usage, "usage: script\n"),
         ("", Status::Usage, "usage: script\n"),

@@ -1,0 +1,6 @@
+mod Growing
+pub mod Linked
+mod Meeting
+mod Numbers
+mod Places
+mod Rows
