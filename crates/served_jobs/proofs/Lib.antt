@@ -1,0 +1,3 @@
+mod DoorLaws
+mod OwnEntries
+mod WorkLaws

@@ -1,0 +1,4 @@
+pub mod Visits
+pub mod Doorways
+pub mod Works
+pub mod Endings
