@@ -1,0 +1,2 @@
+mod CrewLaws
+mod BackLaws
