@@ -1,0 +1,6 @@
+//! Scratch.
+#![tactic(auto)]
+
+mod crossing;
+
+pub use crossing::run_wired;
