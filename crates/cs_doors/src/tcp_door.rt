@@ -8,24 +8,21 @@ use cs_base::{Failed, Faults};
 use std::io;
 use std::io::ErrorKind;
 use std::net::{SocketAddr, TcpListener};
-use std::time::Clock;
 
 /// A door over TCP. It waits for nobody, and tells nothing of its links.
 #[derive(Drop)]
-pub struct TcpDoor<C> {
+pub struct TcpDoor {
     listener: TcpListener,
-    clock: C,
     faults: Faults,
 }
 
-impl<C: Copy> TcpDoor<C> {
+impl TcpDoor {
     /// The door of a listener that does not block.
-    pub(crate) fn new(listener: TcpListener, clock: C) -> TcpDoor<C>
+    pub(crate) fn new(listener: TcpListener) -> TcpDoor
         ensures { result.faults ≡ 0 }
     {
         TcpDoor {
             listener,
-            clock,
             faults: Faults::new(),
         }
     }
@@ -43,8 +40,8 @@ impl<C: Copy> TcpDoor<C> {
     }
 }
 
-impl<C: Clock + Copy> Door for TcpDoor<C> {
-    type Link = TcpLink<C>;
+impl Door for TcpDoor {
+    type Link = TcpLink;
 
     ghost given = { λ _. None };
 
@@ -52,8 +49,8 @@ impl<C: Clock + Copy> Door for TcpDoor<C> {
 
     ghost faults = { λ s. s.faults };
 
-    fn next(&mut self) -> Result<Option<TcpLink<C>>, Failed> {
-        let Ok(found) = accepted(&self.listener, self.clock) else {
+    fn next(&mut self) -> Result<Option<TcpLink>, Failed> {
+        let Ok(found) = accepted(&self.listener) else {
             self.faults.raise();
             return Err(Failed);
         };
@@ -61,13 +58,13 @@ impl<C: Clock + Copy> Door for TcpDoor<C> {
     }
 
     // The stream is closed where it is dropped.
-    fn back(&mut self, _link: TcpLink<C>) {}
+    fn back(&mut self, _link: TcpLink) {}
 }
 
 /// The link of a peer that waits. A peer that has gone again does not wait.
-fn accepted<C: Clock + Copy>(listener: &TcpListener, clock: C) -> io::Result<Option<TcpLink<C>>> {
+fn accepted(listener: &TcpListener) -> io::Result<Option<TcpLink>> {
     match listener.accept() {
-        Ok((stream, _)) => Ok(Some(TcpLink::new(stream, clock)?)),
+        Ok((stream, _)) => Ok(Some(TcpLink::new(stream)?)),
         Err(error) if is_for_later(&error) || error.kind() == ErrorKind::ConnectionAborted => {
             Ok(None)
         }

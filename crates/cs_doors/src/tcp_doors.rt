@@ -8,7 +8,6 @@ use cs_base::{Failed, Faults, NodeId};
 use std::alloc::Global;
 use std::io;
 use std::net::{IpAddr, Ipv4Addr, Net, SocketAddr, TcpListener, TcpStream};
-use std::time::Clock;
 
 /// The listener of a node, from which its doors have theirs.
 #[derive(Drop)]
@@ -57,9 +56,9 @@ impl<R: Copy> TcpDoors<R> {
 
 impl<R> Doors for TcpDoors<R>
 where
-    R: Net<Listener = TcpListener, Stream = TcpStream> + Clock + Copy,
+    R: Net<Listener = TcpListener, Stream = TcpStream> + Copy,
 {
-    type Door = TcpDoor<R>;
+    type Door = TcpDoor;
 
     ghost given = { λ _. None };
 
@@ -69,16 +68,16 @@ where
 
     ghost lends = { λ _. tt };
 
-    fn listen(&mut self, node: NodeId, port: u16) -> Result<TcpDoor<R>, Failed> {
+    fn listen(&mut self, node: NodeId, port: u16) -> Result<TcpDoor, Failed> {
         let address = SocketAddr::new(self.address, port);
         let Ok(listener) = opened(&self.runtime, address, node, &mut self.ports) else {
             self.faults.raise();
             return Err(Failed);
         };
-        Ok(TcpDoor::new(listener, self.runtime))
+        Ok(TcpDoor::new(listener))
     }
 
-    fn back(&mut self, _node: NodeId, door: TcpDoor<R>) {
+    fn back(&mut self, _node: NodeId, door: TcpDoor) {
         if door.faults().count() > 0 {
             self.faults.raise();
         }

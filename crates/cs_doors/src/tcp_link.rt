@@ -4,33 +4,38 @@ ghost use Rattle.std.specs.Prelude.{◌≡◌, ◌≤◌, ◌<◌, length, None,
 
 use cs_base::{Failed, Faults};
 use cs_io::{Heard, Link};
+use std::io;
 use std::io::{ErrorKind, Read, Write};
 use std::net::TcpStream;
-use std::time::{Clock, Duration};
-use std::{io, thread};
+use std::time::Duration;
 
-/// How often a write is tried while the peer takes nothing, with a rest of a millisecond before the next try.
-const WRITE_TURNS: u32 = 5_000;
+/// How long a read waits for bytes, in milliseconds. Whoever reads looks at a stop sign in between.
+const READ_WAIT: u64 = 10;
 
-/// A link over TCP. A read waits for nothing. A write waits for a peer that takes nothing, about five seconds at most; then it
-/// is a fault. It tells nothing of its bytes.
+/// How often a write is made again that was interrupted.
+const WRITE_TURNS: u32 = 1_000;
+
+/// How long a write waits for a peer that takes nothing, in seconds. Then it is a fault.
+const WRITE_WAIT: u64 = 5;
+
+/// A link over TCP. A read waits a short while for bytes. It tells nothing of its bytes.
 #[derive(Drop)]
-pub struct TcpLink<C> {
+pub struct TcpLink {
     stream: TcpStream,
-    clock: C,
     faults: Faults,
 }
 
-impl<C: Clock + Copy> TcpLink<C> {
+impl TcpLink {
     /// The link of a stream that was accepted or connected.
-    pub fn new(stream: TcpStream, clock: C) -> io::Result<TcpLink<C>>
+    pub fn new(stream: TcpStream) -> io::Result<TcpLink>
         ensures { IfOk result (λ link. link.faults ≡ 0) }
     {
-        stream.set_nonblocking(true)?;
+        stream.set_nonblocking(false)?;
+        stream.set_read_timeout(Some(Duration::from_millis(READ_WAIT)))?;
+        stream.set_write_timeout(Some(Duration::from_secs(WRITE_WAIT)))?;
         stream.set_nodelay(true)?;
         Ok(TcpLink {
             stream,
-            clock,
             faults: Faults::new(),
         })
     }
@@ -43,7 +48,7 @@ impl<C: Clock + Copy> TcpLink<C> {
     }
 }
 
-impl<C: Clock + Copy> Link for TcpLink<C> {
+impl Link for TcpLink {
     ghost remaining = { λ _. None };
 
     ghost idles = { λ _. None };
@@ -68,7 +73,7 @@ impl<C: Clock + Copy> Link for TcpLink<C> {
     }
 
     fn write(&mut self, piece: &[u8]) -> Result<usize, Failed> {
-        match send(&mut self.stream, &self.clock, piece) {
+        match send(&mut self.stream, piece) {
             Some(count) => Ok(count),
             None => {
                 self.faults.raise();
@@ -78,8 +83,8 @@ impl<C: Clock + Copy> Link for TcpLink<C> {
     }
 }
 
-/// Writes a beginning of the piece, and at least one of its bytes.
-fn send<C: Clock>(stream: &mut TcpStream, clock: &C, piece: &[u8]) -> Option<usize>
+/// Writes a beginning of the piece, and at least one of its bytes. A write that was interrupted is made again.
+fn send(stream: &mut TcpStream, piece: &[u8]) -> Option<usize>
     ensures within { IfSome result (λ n. n ≤ length piece.now) }
     ensures some { IfSome result (λ n. 0 < length piece.now → 0 < n) }
 {
@@ -87,9 +92,7 @@ fn send<C: Clock>(stream: &mut TcpStream, clock: &C, piece: &[u8]) -> Option<usi
         match stream.write(piece) {
             Ok(0) if !piece.is_empty() => return None,
             Ok(count) => return Some(count),
-            Err(error) if is_for_later(&error) => {
-                thread::sleep(clock, Duration::from_millis(1));
-            }
+            Err(error) if error.kind() == ErrorKind::Interrupted => {}
             Err(_) => return None,
         }
     }

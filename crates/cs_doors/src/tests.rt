@@ -91,7 +91,7 @@ fn links_over_tcp_carry_bytes_both_ways(rt: HostRuntime) -> Result<(), Fail> {
     assert!(rt; door.next()?.is_none());
     assert_eq!(rt; door.address()?, twin.address()?);
 
-    let mut peer = TcpLink::new(TcpStream::connect(&rt, door.address()?)?, rt)?;
+    let mut peer = TcpLink::new(TcpStream::connect(&rt, door.address()?)?)?;
     let mut link = next_link(&rt, &mut twin)?.ok_or("a link")?;
     let mut buffer = [0; 8];
     assert_eq!(rt; link.read(&mut buffer), Ok(Heard::Idle));

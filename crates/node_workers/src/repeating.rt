@@ -9,7 +9,7 @@ ghost use Rattle.peer_messages.specs.declared.event.What.TheVariants.{Flush, Tic
 use crate::chore::Chore;
 use crate::ended::Ended;
 use crate::outcome::{has_failed, is_full};
-use crate::site::{PAUSE, Site};
+use crate::site::{Site, TURN};
 use cs_base::Micros;
 use cs_runtime::Clock;
 use node_calls::{NodeCall, NodeReply};
@@ -62,7 +62,7 @@ fn take_turn<W: Wait, N: Stepper<Event = NodeCall, Reply = NodeReply>, C: Clock>
 {
     let clock = site.clock.now();
     if !is_due(*last, clock) {
-        site.clock.rest(PAUSE);
+        site.clock.rest(TURN);
         return false;
     }
     *last = Some(clock);

@@ -6,8 +6,11 @@ use node_lock::{NodeLock, Pass, Stepper};
 use std::sync::Wait;
 use std::sync::atomic::{AtomicBool, Ordering};
 
-/// How long one rests that has nothing to do, in microseconds.
-pub(crate) const PAUSE: u64 = 1_000;
+/// How long one rests that waits for a message or an answer, in microseconds.
+pub(crate) const PAUSE: u64 = 200;
+
+/// How long one rests between two looks at the clock, in microseconds.
+pub(crate) const TURN: u64 = 1_000;
 
 /// A locked node, with the runtime and the clock of whoever steps it, and the program's stop flag.
 #[derive(Drop)]

@@ -20,7 +20,7 @@ use serve_loop::serve_connection;
 use std::sync::Wait;
 
 /// How long one rests at whose door nobody waits, in microseconds.
-const PAUSE: u64 = 1_000;
+const PAUSE: u64 = 10_000;
 
 /// Serves the client of a link at a desk of its own, which makes its calls with the pass.
 fn serve_client<

@@ -1,0 +1,3 @@
+pub mod GroupLaws
+pub mod ZipLaws
+pub mod PlaceLaws

@@ -1,0 +1,4 @@
+mod Doors
+mod Endings
+pub mod Moving
+mod Places

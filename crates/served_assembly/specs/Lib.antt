@@ -1,0 +1,3 @@
+pub mod Assembling
+pub mod Parting
+pub mod Linking
