@@ -1,14 +1,12 @@
 -- The run of all nodes with their console.
 use Rattle.std.specs.Prelude.{◌≡◌, ◌⊎◌, ℕ, Option, List, length}
 use Rattle.std.specs.List.{AllZip}
-use Rattle.schema_book.specs.Books.{Book}
 use Rattle.node_calls.specs.declared.call.NodeCall.{NodeCall}
 use Rattle.node_calls.specs.declared.reply.NodeReply.{NodeReply}
 use Rattle.node_lock.specs.Passes.{view_of, start_of}
 use Rattle.item_groups.specs.Zips.{AllZip3}
 use Rattle.served_seats.specs.Seats.{fresh}
 use Rattle.served_console.specs.Jobs.{IsWorked}
-use Rattle.served_console.specs.declared.end.ConsoleEnd.{ConsoleEnd}
 use Rattle.served_console.specs.declared.end.ConsoleEnd.TheVariants as end
 use Rattle.served_console.specs.declared.job.ConsoleDone.{ConsoleDone}
 use Rattle.served_console.specs.declared.job.ConsoleJob.{ConsoleJob}
@@ -31,7 +29,7 @@ pub record Begins {W N C D Entry : Type 0} (clock : C) (node : NodeParts N D) (o
   pub clock_is : o.site.clock.now ≡ clock
   pub pass : view_of o.pass ≡ fresh 0
 
-module _ {W N C G D Entry L S T : Type 0} (steps : N → Entry → N → Type 0) (event_of : Entry → NodeCall) (reply_of : Entry → NodeReply) (refuses : N → NodeCall → NodeCall → Type 0)
+module _ {W N C G D Entry S T : Type 0} (steps : N → Entry → N → Type 0) (event_of : Entry → NodeCall) (reply_of : Entry → NodeReply) (refuses : N → NodeCall → NodeCall → Type 0)
     (gives : C → ℕ → Type 0) where
   module _ (host : Host W C G) (source_left : S → Option (List ℕ)) (source_faults : S → ℕ) (contents : T → Option (List ℕ)) (sink_faults : T → ℕ) where
     -- The console did its work with what stood on the desk, and what it had came back.
@@ -51,7 +49,7 @@ module _ {W N C G D Entry L S T : Type 0} (steps : N → Entry → N → Type 0)
         ((ran.source ≡ desk.source) × (ran.sink ≡ desk.sink) × (ran.end ≡ end.Ended))
         ⊎ ((job : ConsoleJob W N C S T Entry) × (done : ConsoleDone W N C S T Entry) × ConsoleRan desk ran job done)
 
-  module _ (remaining written : L → Option (List ℕ)) (link_faults : L → ℕ) (given : D → Option ℕ) (returned : D → Option (List L)) (faults : D → ℕ) (host : Host W C G) (counted : Type 0)
+  module _ {L : Type 0} (remaining written : L → Option (List ℕ)) (link_faults : L → ℕ) (given : D → Option ℕ) (returned : D → Option (List L)) (faults : D → ℕ) (host : Host W C G) (counted : Type 0)
       (source_left : S → Option (List ℕ)) (source_faults : S → ℕ) (contents : T → Option (List ℕ)) (sink_faults : T → ℕ) where
     -- a node ran, and the console's pass of it ended so
     abbrev pub NodeRanBy : NodeParts N D → OperatedNode W N C Entry → NodeLeft N D Entry → Type 0

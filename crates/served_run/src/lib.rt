@@ -2,9 +2,14 @@
 //! works beside them.
 #![tactic(auto)]
 
+mod assigning;
+mod closing;
 mod desk;
+mod desk_job;
 mod host;
+mod opened;
 mod running;
+mod working;
 
 pub use desk::{Desk, Ran};
 pub use host::Host;

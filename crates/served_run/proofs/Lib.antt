@@ -1,0 +1,6 @@
+mod BackLaws
+mod CloseLaws
+mod CrewLaws
+mod ListLaws
+mod RunLaws
+mod WorkLaws
