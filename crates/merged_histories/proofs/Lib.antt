@@ -1,0 +1,4 @@
+mod Lists
+mod Nodes
+mod Told
+mod Whole
