@@ -1,8 +1,11 @@
-//! The program: it makes the real source and sink, and ends with the status of the top call.
+//! The program: it makes the real source, sink, stores, doors, clock and threads, and ends with the status of the top call.
 #![tactic(auto)]
 
 use cluster_program::run_cluster;
-use cs_io::{StdSink, StdSource};
+use cs_doors::TcpDoors;
+use cs_io::{OpenGate, StdSink, StdSource};
+use cs_runtime::{SysClock, ThreadSpawner};
+use folder_store::DirStores;
 use std::alloc::Global;
 use std::process::ExitCode;
 use std::{env, io};
@@ -18,8 +21,17 @@ fn words(rt: &HostRuntime) -> io::Result<Vec<String>> {
 
 fn main(rt: HostRuntime) -> io::Result<ExitCode> {
     let words = words(&rt)?;
-    let mut source = StdSource::new(rt.reader());
-    let mut sink = StdSink::new(io::writer(&rt));
-    let status = run_cluster(rt.alloc(), &words, &mut source, &mut sink);
-    Ok(ExitCode::from(status.code()))
+    let finished = run_cluster(
+        &rt,
+        rt.alloc(),
+        &words,
+        StdSource::new(rt.reader()),
+        StdSink::new(io::writer(&rt)),
+        &mut DirStores::new(&rt),
+        &mut TcpDoors::new(&rt, rt.alloc()),
+        &SysClock::new(&rt),
+        &mut ThreadSpawner::new(&rt),
+        &OpenGate,
+    );
+    Ok(ExitCode::from(finished.status.code()))
 }

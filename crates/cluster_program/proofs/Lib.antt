@@ -1,5 +1,4 @@
-pub mod ProgramLaws
-pub mod RunLaws
-pub mod StopLaws
-pub mod StreamLaws
-mod KvLaws
+mod HeadLaws
+mod PortLaws
+mod ServeLaws
+mod WordLaws

@@ -1,95 +1,53 @@
--- How the program ends.
-use Rattle.std.specs.Prelude.{◌≡◌, ◌⊎◌, ℕ, List, [], ◌∷◌, ◌++◌, Option, codes, Ok, Err}
+-- How the end of a served run is told.
+use Rattle.std.specs.Prelude.{◌≡◌, ◌⊎◌, ℕ, List, [], ◌∷◌, ◌++◌, Option, codes}
 use Rattle.std.specs.Fmt.{decimal}
-use Rattle.cs_base.specs.Faults.{HasRisen}
-use Rattle.fault_script.specs.declared.script.Script.{Script}
-use Rattle.fault_script.specs.declared.script.ScriptError.{ScriptError}
-use Rattle.fault_script.specs.declared.script.ScriptError.TheVariants as refused
-use Rattle.fault_script.specs.declared.error.ParseError.{ParseError}
-use Rattle.fault_script.specs.declared.error.ParseError.TheVariants as parse
-use Rattle.fault_script.specs.Script.{IsRead}
-use Rattle.cluster_program.specs.declared.program.Refusal.{Refusal}
-use Rattle.cluster_program.specs.declared.program.Refusal.TheVariants as refusal
-use Rattle.cluster_program.specs.declared.program.Status.{Status}
-use Rattle.cluster_program.specs.declared.program.Status.TheVariants as status
-use Rattle.cluster_program.specs.declared.streams.ReadError.{ReadError}
-use Rattle.cluster_program.specs.declared.streams.ReadError.TheVariants as read
-use Rattle.cluster_program.specs.Runs.{IsRunInPrint}
-use Rattle.cluster_program.specs.Streams.{WritesAll, WritesFront}
+use Rattle.served_cluster.specs.declared.ending.ServedEnd.{ServedEnd}
+use Rattle.served_cluster.specs.declared.ending.ServedEnd.TheVariants as served
+use Rattle.script_program.specs.Endings.{IsTold, LeavesLine}
+use Rattle.script_program.specs.declared.program.Status.{Status}
+use Rattle.script_program.specs.declared.program.Status.TheVariants as status
 
--- the bytes are a script, and the text is the printed chronicle of a run of it
-abbrev pub IsRunOf : List ℕ → List ℕ → Type 0
-IsRunOf bytes text = (script : Script) × IsRead bytes (Ok script) × IsRunInPrint script text
+-- ---- lines
 
-abbrev pub error_line : ScriptError → List ℕ
-error_line (refused.Head n) = decimal n ++ codes ": head expected" ++ 10 ∷ []
-error_line (refused.Line n) = decimal n ++ codes ": line not understood" ++ 10 ∷ []
-error_line (refused.Number n) = decimal n ++ codes ": number out of range" ++ 10 ∷ []
-error_line (refused.Cql n at) = decimal n ++ codes ": cql refused at " ++ decimal at ++ 10 ∷ []
-error_line refused.TooLong = codes "script too long" ++ 10 ∷ []
-error_line refused.TooMany = codes "too many lines" ++ 10 ∷ []
+abbrev pub closed_line : List ℕ
+closed_line = codes "closed\n"
 
--- what a refusal says of the bytes that were left
-abbrev pub IsRefused : List ℕ → Refusal → Type 0
-IsRefused left (refusal.Script e) = IsRead left (Err e)
-IsRefused left refusal.ReadFault = Unit {0}
-IsRefused left refusal.NoMemory = Unit {0}
+abbrev pub read_fault_line : List ℕ
+read_fault_line = codes "read fault\n"
 
-abbrev pub of_read : ReadError → Refusal
-of_read read.Failed = refusal.ReadFault
-of_read read.NoMemory = refusal.NoMemory
+abbrev pub no_memory_line : List ℕ
+no_memory_line = codes "no memory\n"
 
-abbrev pub of_parse : ParseError → Refusal
-of_parse (parse.Script e) = refusal.Script e
-of_parse parse.NoMemory = refusal.NoMemory
+abbrev pub door_fault_line : List ℕ
+door_fault_line = codes "door fault\n"
 
--- the number that the process ends with
-abbrev pub code_of : Status → ℕ
-code_of status.Ok = 0
-code_of status.Usage = 2
-code_of status.BadScript = 3
-code_of status.ReadFault = 4
-code_of status.WriteFault = 5
-code_of status.StoreFault = 6
-code_of status.NoMemory = 7
-code_of status.DoorFault = 8
-code_of status.NoThread = 9
-code_of status.HistoryFull = 10
-code_of status.Damaged = 11
+abbrev pub no_thread_line : List ℕ
+no_thread_line = codes "no thread\n"
 
--- a status for which there is no run in print
-abbrev pub IsRefusalStatus : Status → Type 0
-IsRefusalStatus status.Ok = ⊥
-IsRefusalStatus status.Usage = ⊥
-IsRefusalStatus status.BadScript = Unit {0}
-IsRefusalStatus status.ReadFault = Unit {0}
-IsRefusalStatus status.WriteFault = ⊥
-IsRefusalStatus status.StoreFault = ⊥
-IsRefusalStatus status.NoMemory = Unit {0}
-IsRefusalStatus status.DoorFault = ⊥
-IsRefusalStatus status.NoThread = ⊥
-IsRefusalStatus status.HistoryFull = ⊥
-IsRefusalStatus status.Damaged = ⊥
+abbrev pub store_fault_line : ℕ → List ℕ
+store_fault_line node = codes "store fault " ++ decimal node ++ 10 ∷ []
 
--- What a text that is no script ends with, by the source's count of faults, and what a script ends with, by the sink's too
-abbrev pub IsRefusedWith : ℕ → ℕ → Status → Type 0
-IsRefusedWith reads reads' s = (s ≡ status.BadScript) ⊎ (s ≡ status.NoMemory) ⊎ ((s ≡ status.ReadFault) × HasRisen reads reads')
+abbrev pub history_full_line : ℕ → List ℕ
+history_full_line node = codes "history full " ++ decimal node ++ 10 ∷ []
 
-abbrev pub IsServedWith : ℕ → ℕ → ℕ → ℕ → Status → Type 0
-IsServedWith reads reads' writes writes' s =
-    (s ≡ status.Ok) ⊎ (s ≡ status.NoMemory) ⊎ ((s ≡ status.ReadFault) × HasRisen reads reads') ⊎ ((s ≡ status.WriteFault) × HasRisen writes writes')
+abbrev pub damaged_line : ℕ → ℕ → ℕ → List ℕ
+damaged_line node file at = codes "damaged " ++ decimal node ++ 32 ∷ decimal file ++ 32 ∷ decimal at ++ 10 ∷ []
 
--- the script is refused, and its line is told
-abbrev pub RefusesScript : Refusal → (List ℕ → Type 0) → Type 0
-RefusesScript (refusal.Script e) Told = Told (error_line e)
-RefusesScript refusal.ReadFault Told = ⊥
-RefusesScript refusal.NoMemory Told = ⊥
+-- ---- ends
 
--- the line is written last: whole, or a front of it where the sink fails
-abbrev pub LeavesLine : Option (List ℕ) → Option (List ℕ) → ℕ → ℕ → List ℕ → Type 0
-LeavesLine held held' faults faults' line = WritesAll held held' line ⊎ (WritesFront held held' line × HasRisen faults faults')
+-- the line is left with this status, or there is no memory to make it
+abbrev pub TellsLine : Status → List ℕ → Option (List ℕ) → Option (List ℕ) → ℕ → ℕ → Status → Type 0
+TellsLine told line held held' faults faults' s =
+    ((s ≡ told) × LeavesLine held held' faults faults' line) ⊎ ((s ≡ status.NoMemory) × LeavesLine held held' faults faults' no_memory_line)
 
--- the text is written whole, or a front of it where the sink fails, and the status says which
-abbrev pub IsTold : Option (List ℕ) → Option (List ℕ) → ℕ → ℕ → List ℕ → Status → Type 0
-IsTold held held' faults faults' text s =
-    ((s ≡ status.Ok) × WritesAll held held' text) ⊎ ((s ≡ status.WriteFault) × WritesFront held held' text × HasRisen faults faults')
+-- what is written behind all that a served run wrote, and the status that goes with it. Where the console could not write, nothing is
+abbrev pub TellsEnd : ServedEnd → Option (List ℕ) → Option (List ℕ) → ℕ → ℕ → Status → Type 0
+TellsEnd served.Closed held held' faults faults' s = IsTold held held' faults faults' closed_line s
+TellsEnd served.ReadFault held held' faults faults' s = (s ≡ status.ReadFault) × LeavesLine held held' faults faults' read_fault_line
+TellsEnd served.WriteFault held held' faults faults' s = (s ≡ status.WriteFault) × (held' ≡ held) × (faults' ≡ faults)
+TellsEnd (served.StoreFault n) held held' faults faults' s = TellsLine status.StoreFault (store_fault_line n) held held' faults faults' s
+TellsEnd served.NoMemory held held' faults faults' s = (s ≡ status.NoMemory) × LeavesLine held held' faults faults' no_memory_line
+TellsEnd served.DoorFault held held' faults faults' s = (s ≡ status.DoorFault) × LeavesLine held held' faults faults' door_fault_line
+TellsEnd served.NoThread held held' faults faults' s = (s ≡ status.NoThread) × LeavesLine held held' faults faults' no_thread_line
+TellsEnd (served.HistoryFull n) held held' faults faults' s = TellsLine status.HistoryFull (history_full_line n) held held' faults faults' s
+TellsEnd (served.Damaged n f p) held held' faults faults' s = TellsLine status.Damaged (damaged_line n f p) held held' faults faults' s

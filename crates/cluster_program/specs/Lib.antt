@@ -1,7 +1,7 @@
 pub mod Commands
 pub mod Endings
-pub mod Requests
-pub mod Lines
+pub mod Heads
+pub mod Reading
+pub mod Serving
 pub mod Runs
-pub mod Stops
-pub mod Streams
+pub mod Replicas

@@ -1,72 +1,45 @@
--- A text that is the run of a script in print.
-use Rattle.std.specs.Prelude.{◌≡◌, ℕ, Bool, true, false, Option, Some, None, List, [], ◌∷◌, map}
-use Rattle.answer_causes.specs.AnswersRight.{AnswersRight}
-use Rattle.read_consistency.specs.ReadRight.{ReadRight}
-use Rattle.reads_forward.specs.ReadsForward.{ReadsForward}
-use Rattle.schema_book.specs.Books.{Book}
-use Rattle.peer_messages.specs.declared.chronicle.Entry.{Entry}
-use Rattle.peer_messages.specs.declared.chronicle.Entry.TheVariants.{Used}
+-- A run that was served from a desk, and a head that was refused, each as it was told.
+use Rattle.std.specs.Prelude.{◌≡◌, ◌≤◌, ℕ, List, Option, None, Some}
+use Rattle.cs_base.specs.Faults.{HasRisen}
 use Rattle.peer_messages.specs.declared.setting.Setting.{Setting}
-use Rattle.cluster_model.specs.Beginning.{begun_site}
-use Rattle.cluster_model.specs.State.{ClusterState, IsReached, AreFresh, no_post}
-use Rattle.cluster_model.specs.Takes.{Takes}
-use Rattle.cluster_model.specs.declared.event.ClusterEvent.{ClusterEvent}
-use Rattle.chronicle_print.specs.Printed.{IsInPrint}
-use Rattle.fault_script.specs.declared.script.Script.{Script}
-use Rattle.fault_script.specs.declared.script.ScriptEvent.{ScriptEvent}
-use Rattle.cluster_program.specs.Requests.{IsEventOf, setting_of}
-use Rattle.cluster_program.specs.Stops.{StopsAreNamed}
+use Rattle.schema_book.specs.Books.{Book}
+use Rattle.served_stores.specs.Shown.{Shown}
+use Rattle.served_run.specs.declared.desk.Desk.{Desk}
+use Rattle.served_run.specs.declared.host.Host.{Host}
+use Rattle.served_cluster.specs.Served.{IsServed, StreamsAreBack}
+use Rattle.served_cluster.specs.declared.ending.ServedEnd.TheVariants as served
+use Rattle.served_cluster.specs.declared.ending.ServedRun.{ServedRun}
+use Rattle.script_program.specs.Endings.{LeavesLine, RefusesScript, IsRefusalStatus}
+use Rattle.script_program.specs.declared.program.Refusal.{Refusal}
+use Rattle.script_program.specs.declared.program.Refusal.TheVariants as refused
+use Rattle.script_program.specs.declared.program.Status.{Status}
+use Rattle.script_program.specs.declared.program.Status.TheVariants as told
+use Rattle.cluster_program.specs.Endings.{read_fault_line, no_memory_line, TellsEnd}
+use Rattle.cluster_program.specs.Serving.{Kinds}
 
-abbrev pub named_by : Entry → Option (List ℕ) → Option (List ℕ)
-named_by (Used request name) keyspace = Some name
-named_by e keyspace = keyspace
+module _ (W G K : Type 0) {R D L C S T : Type 0} (k : Kinds R D L C S T) where
+  -- The run was served from the desk by the clock, ended for its cause, and was told with this status.
+  pub record Serves (clock : C) (schema : Book) (setting : Setting) (desk : Desk S T) (doors_rose counted : Type 0) (old new : Shown) (source' : S) (sink' : T) (status : Status) : Type 0 where
+    pub host : Host W C G
+    pub run : ServedRun S T
+    pub schema_is : host.schema.now ≡ schema
+    pub clock_is : host.clock.now ≡ clock
+    pub streams_are_back : StreamsAreBack D k.replica k.gives k.streams host desk run
+    pub read_fault : run.end ≡ served.ReadFault → HasRisen (k.streams.source_faults desk.source) (k.streams.source_faults run.source)
+    pub write_fault : run.end ≡ served.WriteFault → HasRisen (k.streams.sink_faults desk.sink) (k.streams.sink_faults run.sink)
+    pub store_fault : (n : ℕ) → run.end ≡ served.StoreFault n → HasRisen (old.faults n) (new.faults n)
+    pub door_fault : run.end ≡ served.DoorFault → doors_rose
+    pub no_thread : run.end ≡ served.NoThread → counted
+    pub damaged : (n f p : ℕ) → run.end ≡ served.Damaged n f p → k.replica.is_honest → k.is_damaged (old.holds n) f p
+    pub closed : run.end ≡ served.Closed → IsServed K k.replica k.door k.gives k.streams host desk counted setting old new run None
+    pub full : (n : ℕ) → run.end ≡ served.HistoryFull n → IsServed K k.replica k.door k.gives k.streams host desk counted setting old new run (Some n)
+    pub source_is : source' ≡ run.source
+    pub told : TellsEnd run.end (k.streams.contents run.sink) (k.streams.contents sink') (k.streams.sink_faults run.sink) (k.streams.sink_faults sink') status
+    pub later : k.streams.sink_faults run.sink ≤ k.streams.sink_faults sink'
 
-abbrev pub newest : List Entry → Option Entry
-newest [] = None
-newest (e ∷ earlier) = Some e
-
--- the name that an entry gives
-abbrev pub name_in : Option Entry → Option (List ℕ)
-name_in None = None
-name_in (Some e) = named_by e None
-
-abbrev pub is_nothing : List Entry → Bool
-is_nothing [] = true
-is_nothing (e ∷ earlier) = false
-
-abbrev pub named_by_any : Option Entry → Option (List ℕ) → Option (List ℕ)
-named_by_any None keyspace = keyspace
-named_by_any (Some e) keyspace = named_by e keyspace
-
--- the keyspace of later statements is the one that the newest entry names, if it names one
-abbrev pub keyspace_after : Option (List ℕ) → List Entry → Option (List ℕ)
-keyspace_after keyspace entries = named_by_any (newest entries) keyspace
-
--- the cluster takes the events one after another
-abbrev pub Plays : Book → Option (List ℕ) → ClusterState → List ScriptEvent → ClusterState → Type 0
-Plays book keyspace v [] v' = v' ≡ v
-Plays book keyspace v (e ∷ rest) v' =
-    (event : ClusterEvent) × (mid : ClusterState) × IsEventOf book keyspace e event × Takes v event mid
-    × Plays book (keyspace_after keyspace mid.chronicle) mid rest v'
-
--- nodes that were just loaded from formatted stores, and nothing has happened
-pub record IsFresh (c : Setting) (v : ClusterState) : Type 0 where
-  pub setting : v.setting ≡ c
-  pub first : AreFresh c v.first
-  pub sites : v.sites ≡ map begun_site v.first
-  pub post : v.post ≡ no_post
-  pub chronicle : v.chronicle ≡ []
-
--- The text is the printed chronicle of a run of fresh nodes with just the script's events, in which each answered read is
--- right and goes forward, each request is told what it is told for its cause, and each node runs on that no line stops
-pub record IsRunInPrint (script : Script) (text : List ℕ) : Type 0 where
-  pub before : ClusterState
-  pub after : ClusterState
-  pub fresh : IsFresh (setting_of script) before
-  pub plays : Plays script.schema None before script.events after
-  pub reached : IsReached after
-  pub named : StopsAreNamed script.events after.sites
-  pub right : ReadRight (setting_of script) after.chronicle
-  pub forward : ReadsForward (setting_of script) after.chronicle
-  pub causes : AnswersRight (setting_of script) after.chronicle
-  pub print : IsInPrint script.schema.tables after.chronicle text
+-- the refusal is told with this status, and nothing else is written
+pub record RefusesSo (refusal : Refusal) (held held' : Option (List ℕ)) (faults faults' : ℕ) (status : Status) : Type 0 where
+  pub script : status ≡ told.BadScript → RefusesScript refusal (LeavesLine held held' faults faults')
+  pub read_fault : status ≡ told.ReadFault → (refusal ≡ refused.ReadFault) × LeavesLine held held' faults faults' read_fault_line
+  pub memory : status ≡ told.NoMemory → LeavesLine held held' faults faults' no_memory_line
+  pub others : IsRefusalStatus status

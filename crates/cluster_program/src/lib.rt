@@ -1,11 +1,14 @@
 //! The program: all that it does is the one call `run_cluster`.
 #![tactic(auto)]
 
-mod keyspace;
+mod command;
+mod ending;
+mod finished;
+mod head;
 mod program;
-mod requests;
-mod run;
-mod statements;
-mod streams;
+mod serving;
 
-pub use program::{Status, run_cluster};
+pub use command::Command;
+pub use finished::Finished;
+pub use program::run_cluster;
+pub use script_program::Status;

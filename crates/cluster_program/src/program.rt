@@ -1,319 +1,150 @@
-//! The top call, and how it ends.
+//! The top call.
 
-ghost use Rattle.std.specs.Prelude.{All, ◌≡◌, ◌≢◌, None, ◌⊎◌, ◌↔◌, ◌≤◌, ◌++◌, ◌∷◌, [], ℕ, List, Ok, map, codes, Some, Err, IsTrue, IfOk, IfErr, OnOk, IfSome, IsErrOf};
-ghost use Rattle.std.specs.Fmt.{decimal};
+ghost use Rattle.std.specs.Prelude.{◌≡◌, ◌⊎◌, ◌↔◌, ℕ, List, [], map, codes, true, false, None, Some, Ok, Err, IfSome};
 ghost use Rattle.std.specs.String.{string_bytes};
 ghost use Rattle.cs_base.specs.Faults.{HasRisen};
-ghost use Rattle.fault_script.specs.Script.{IsRead, IsSaid};
+ghost use Rattle.fault_script.specs.Script.{IsRead};
 ghost use Rattle.fault_script.specs.declared.script.Script.{Script as script_value};
 ghost use Rattle.fault_script.specs.declared.script.ScriptError.{ScriptError};
-ghost use Rattle.cluster_program.specs.Commands.{command_of_name, command_named, usage_line, help_text, version_text};
-ghost use Rattle.cluster_program.specs.Endings.{IsTold, IsRunOf, LeavesLine, RefusesScript, IsRefusalStatus, IsRefusedWith, IsServedWith, IsRefused, of_read, of_parse, error_line as error_line_of};
-ghost use Rattle.cluster_program.specs.Lines.{HasKv};
-ghost use Rattle.cluster_program.specs.Streams.{WritesAll, WritesFront};
-ghost use Rattle.cluster_program.specs.declared.program.Refusal.TheVariants.{NoMemory as RefusalMemory};
+ghost use Rattle.list_replica.specs.Standing.{IsDamagedAt};
+ghost use Rattle.source_lines.specs.Heads.{head_of};
+ghost use Rattle.served_stores.specs.Shown.{shown};
+ghost use Rattle.served_cluster.specs.Kinds.{kind_of_door, kind_of_streams};
+ghost use Rattle.script_program.specs.Endings.{IsTold, IsRunOf, LeavesLine, IsRefusalStatus, IsRefusedWith, IsServedWith, error_line};
+ghost use Rattle.script_program.specs.Streams.{WritesAll, WritesFront};
+ghost use Rattle.cluster_program.specs.Commands.{command_named, is_serve, usage_line, help_text, version_text};
+ghost use Rattle.cluster_program.specs.Replicas.{list_kind};
+ghost use Rattle.cluster_program.specs.Serving.{kinds, ServeEnds};
 
-use crate::run::run;
-use crate::statements::scripts_have_kv;
-use crate::streams::{ReadError, read_all, write_all};
-use chronicle_print::push_number;
-use cs_base::Failed;
-use cs_io::{Sink, Source};
-use fault_script::{
-    ParseError, Script, ScriptError, one_reading, parse, scripts_have_an_expiry,
-    statements_are_read,
-};
-use list_replica::MemListReplica;
-use std::alloc::{AllocError, Global};
-use std::mem;
+use crate::command::{Command, command_of};
+use crate::finished::Finished;
+use crate::serving::run_serve;
+use cs_doors::{Door, Doors};
+use cs_io::{Gate, Link, Sink, Source};
+use cs_runtime::{Clock, Spawner};
+use cs_store::{Store, Stores};
+use list_replica::ListReplica;
+use script_program::{Status, leave_line, run_script, tell};
+use served_cluster::Place;
+use std::alloc::Global;
+use std::sync::Wait;
 
-/// How the program ended. `script` never ends with `StoreFault`, `DoorFault`, `NoThread`, `HistoryFull` or `Damaged`,
-/// which are for serving connections.
-#[derive(Clone, Copy, Debug, PartialEq, Eq)]
-pub enum Status {
-    Ok,
-    Usage,
-    BadScript,
-    ReadFault,
-    WriteFault,
-    StoreFault,
-    NoMemory,
-    DoorFault,
-    NoThread,
-    HistoryFull,
-    Damaged,
-}
+/// Runs the command that the words name. `script` reads a fault script to its end, runs it, and writes the printed
+/// chronicle. `serve` reads the head of a script and serves its nodes, whose rows lie in a folder, until the console ends the
+/// run; the console reads its lines behind the head. `--help` and `--version` tell of the program.
+pub fn run_cluster<W, S, T, D, L, C, P, G>(
+    rt: &W,
+    alloc: Global,
+    words: &[String],
+    source: S,
+    sink: T,
+    stores: &mut D,
+    doors: &mut L,
+    clock: &C,
+    spawner: &mut P,
+    gate: &G,
+) -> Finished<S, T>
+where
+    W: Wait + Sync,
+    S: Source + Drop,
+    T: Sink + Drop,
+    D: Stores,
+    D::Store: Store + Drop + Send,
+    L: Doors,
+    L::Door: Drop + Send,
+    <L::Door as Door>::Link: Send,
+    C: Clock + Sync,
+    P: Spawner,
+    G: Gate + Sync,
+    ensures usage { result.status ≡ Status.Usage ↔ command_named (map string_bytes words.now) ≡ None }
+    ensures usage_line { result.status ≡ Status.Usage → LeavesLine (T.contents sink) (T.contents result.sink) (T.faults sink) (T.faults result.sink) usage_line }
+    ensures help { command_named (map string_bytes words.now) ≡ Some Command.Help → IsTold (T.contents sink) (T.contents result.sink) (T.faults sink) (T.faults result.sink) help_text result.status }
+    ensures version { command_named (map string_bytes words.now) ≡ Some Command.Version → IsTold (T.contents sink) (T.contents result.sink) (T.faults sink) (T.faults result.sink) version_text result.status }
 
-impl Status {
-    ghost use Rattle.cluster_program.specs.Endings.{code_of};
+    // A fault has its cause, whatever the command.
+    ensures read_fault { result.status ≡ Status.ReadFault → HasRisen (S.faults source) (S.faults result.source) }
+    ensures write_fault { result.status ≡ Status.WriteFault → HasRisen (T.faults sink) (T.faults result.sink) }
+    ensures door_fault { result.status ≡ Status.DoorFault → HasRisen (L.faults doors.old) (L.faults doors.new) }
+    ensures no_thread { result.status ≡ Status.NoThread → HasRisen (P.faults spawner.old) (P.faults spawner.new) }
 
-    /// The number that the process ends with.
-    pub fn code(self) -> u8
-        ensures { result ≡ code_of self }
-    {
-        match self {
-            Status::Ok => 0,
-            Status::Usage => 2,
-            Status::BadScript => 3,
-            Status::ReadFault => 4,
-            Status::WriteFault => 5,
-            Status::StoreFault => 6,
-            Status::NoMemory => 7,
-            Status::DoorFault => 8,
-            Status::NoThread => 9,
-            Status::HistoryFull => 10,
-            Status::Damaged => 11,
+    // Another command than `serve` has nothing to do with stores, doors and threads, nor has `serve` where its head is no script.
+    ensures statuses { is_serve (command_named (map string_bytes words.now)) ≡ false → (result.status ≡ Status.Ok) ⊎ (result.status ≡ Status.Usage) ⊎ (result.status ≡ Status.WriteFault) ⊎ IsRefusalStatus result.status }
+    ensures no_memory { is_serve (command_named (map string_bytes words.now)) ≡ false → result.status ≡ Status.NoMemory → LeavesLine (T.contents sink) (T.contents result.sink) (T.faults sink) (T.faults result.sink) (codes "no memory\n") }
+    ensures unserved { is_serve (command_named (map string_bytes words.now)) ≡ false → (stores.new ≡ stores.old) × (doors.new ≡ doors.old) × (spawner.new ≡ spawner.old) }
+    ensures untouched { result.status ≡ Status.BadScript → (stores.new ≡ stores.old) × (doors.new ≡ doors.old) × (spawner.new ≡ spawner.old) }
+
+    // `script`.
+    ensures ok { command_named (map string_bytes words.now) ≡ Some Command.Script → result.status ≡ Status.Ok → IfSome (S.remaining source) (λ left. (text : List ℕ) × IsRunOf left text × WritesAll (T.contents sink) (T.contents result.sink) text) }
+    ensures end { command_named (map string_bytes words.now) ≡ Some Command.Script → result.status ≡ Status.Ok → IfSome (S.remaining source) (λ _. S.remaining result.source ≡ Some []) }
+    ensures bad_script { command_named (map string_bytes words.now) ≡ Some Command.Script → result.status ≡ Status.BadScript → IfSome (S.remaining source) (λ left. (error : ScriptError) × IsRead left (Err error) × LeavesLine (T.contents sink) (T.contents result.sink) (T.faults sink) (T.faults result.sink) (error_line error)) }
+    ensures read_fault_line { command_named (map string_bytes words.now) ≡ Some Command.Script → result.status ≡ Status.ReadFault → LeavesLine (T.contents sink) (T.contents result.sink) (T.faults sink) (T.faults result.sink) (codes "read fault\n") }
+    ensures written { command_named (map string_bytes words.now) ≡ Some Command.Script → result.status ≡ Status.WriteFault → IfSome (S.remaining source) (λ left. (text : List ℕ) × IsRunOf left text × WritesFront (T.contents sink) (T.contents result.sink) text) }
+    ensures refused { IfSome (S.remaining source) (λ left. (error : ScriptError) → IsRead left (Err error) → command_named (map string_bytes words.now) ≡ Some Command.Script → IsRefusedWith (S.faults source) (S.faults result.source) result.status) }
+    ensures served { IfSome (S.remaining source) (λ left. (script : script_value) → IsRead left (Ok script) → command_named (map string_bytes words.now) ≡ Some Command.Script → IsServedWith (S.faults source) (S.faults result.source) (T.faults sink) (T.faults result.sink) result.status) }
+
+    // `serve`.
+    ensures serve { (port : ℕ) → command_named (map string_bytes words.now) ≡ Some (Command.Serve port) → ServeEnds W G D.Store (kinds (list_kind D.Store.is_honest D.Store.disk D.Store.faults) IsDamagedAt (kind_of_door L.Door.given L.Door.returned L.Door.faults L.Door.Link.remaining L.Door.Link.written L.Door.Link.faults) C.gives (kind_of_streams S.remaining S.faults T.contents T.faults)) clock.now port (HasRisen (P.faults spawner.old) (P.faults spawner.new)) (shown D.holds D.faults D.taken D.is_out stores.old) (shown D.holds D.faults D.taken D.is_out stores.new) source sink result.source result.sink result.status }
+    ensures head_refused { IfSome (S.remaining source) (λ left. (error : ScriptError) → IsRead (head_of left) (Err error) → is_serve (command_named (map string_bytes words.now)) ≡ true → IsRefusedWith (S.faults source) (S.faults result.source) result.status) }
+{
+    match command_of(words) {
+        Some(Command::Script) => {
+            let mut source = source;
+            let mut sink = sink;
+            let status = run_script(alloc, &mut source, &mut sink);
+            Finished {
+                status,
+                source,
+                sink,
+            }
         }
-    }
-}
-
-/// What the words ask of the program.
-#[derive(Clone, Copy, Debug, PartialEq, Eq)]
-pub enum Command {
-    Script,
-    Help,
-    Version,
-}
-
-/// Why there is no run in print.
-#[derive(Clone, Copy, Debug, PartialEq, Eq)]
-pub enum Refusal {
-    Script(ScriptError),
-    ReadFault,
-    NoMemory,
-}
-
-impl From<AllocError> for Refusal {
-    ghost from_gives = { λ _ r. r ≡ RefusalMemory };
-
-    fn from(_error: AllocError) -> Refusal {
-        Refusal::NoMemory
-    }
-}
-
-impl From<ReadError> for Refusal {
-    ghost from_gives = { λ e r. r ≡ of_read e };
-
-    fn from(error: ReadError) -> Refusal {
-        match error {
-            ReadError::Failed => Refusal::ReadFault,
-            ReadError::NoMemory => Refusal::NoMemory,
+        Some(Command::Serve(port)) => {
+            let place = Place {
+                dir: words[1].as_str(),
+                port,
+            };
+            run_serve::<ListReplica<D::Store>, W, S, T, D, L, C, P, G>(
+                rt, alloc, place, source, sink, stores, doors, clock, spawner, gate,
+            )
         }
-    }
-}
-
-impl From<ParseError> for Refusal {
-    ghost from_gives = { λ e r. r ≡ of_parse e };
-
-    fn from(error: ParseError) -> Refusal {
-        match error {
-            ParseError::Script(error) => Refusal::Script(error),
-            ParseError::NoMemory => Refusal::NoMemory,
-        }
-    }
-}
-
-/// The script that the source has left, read to its end.
-fn read_script<S: Source>(alloc: Global, source: &mut S) -> Result<Script, Refusal>
-    ensures script { IfOk result (λ script. IfSome (S.remaining source.old) (λ left. IsRead left (Ok script))) }
-    ensures end { OnOk result (IfSome (S.remaining source.old) (λ _. S.remaining source.new ≡ Some [])) }
-    ensures refused { IfErr result (λ r. IfSome (S.remaining source.old) (λ left. IsRefused left r)) }
-    ensures said { IfOk result (λ script. All IsSaid script.events) }
-    ensures kv { IfOk result (λ script. HasKv script.schema) }
-    ensures expiry { IfOk result (λ script. script.expiry ≤ 100000) }
-    ensures failed { IsErrOf result Refusal.ReadFault → HasRisen (S.faults source.old) (S.faults source.new) }
-{
-    statements_are_read();
-    scripts_have_kv();
-    scripts_have_an_expiry();
-    let text = read_all(alloc, source)?;
-    Ok(parse(alloc, &text)?)
-}
-
-/// The run of that script, in print.
-fn print_run<S: Source>(alloc: Global, source: &mut S) -> Result<Vec<u8>, Refusal>
-    ensures text { IfOk result (λ text. IfSome (S.remaining source.old) (λ left. IsRunOf left text.items)) }
-    ensures end { OnOk result (IfSome (S.remaining source.old) (λ _. S.remaining source.new ≡ Some [])) }
-    ensures refused { IfErr result (λ r. IfSome (S.remaining source.old) (λ left. IsRefused left r)) }
-    ensures failed { IsErrOf result Refusal.ReadFault → HasRisen (S.faults source.old) (S.faults source.new) }
-{
-    let script = read_script(alloc, source)?;
-    let text = run::<MemListReplica>(alloc, &script)?;
-    mem::forget(script);
-    Ok(text)
-}
-
-/// The command that the words name.
-fn command_of(words: &[String]) -> Option<Command>
-    ensures { result ≡ command_named (map string_bytes words.now) }
-{
-    match words {
-        [word] => command_of_word(word.as_str()),
-        _ => None,
-    }
-}
-
-fn command_of_word(word: &str) -> Option<Command>
-    ensures { result ≡ command_of_name word.now }
-{
-    if word == "script" {
-        return Some(Command::Script);
-    }
-    if word == "--help" {
-        return Some(Command::Help);
-    }
-    if word == "--version" {
-        return Some(Command::Version);
-    }
-    None
-}
-
-/// Writes a last line. Where that fails, the status already says what ended the run.
-fn leave_line<T: Sink>(sink: &mut T, line: &[u8])
-    ensures { LeavesLine (T.contents sink.old) (T.contents sink.new) (T.faults sink.old) (T.faults sink.new) line.now }
-{
-    let _ = write_all(sink, line);
-}
-
-/// The line of a refusal that has a number.
-fn numbered_line(alloc: Global, number: u64, text: &str) -> Result<Vec<u8>, AllocError>
-    ensures { IfOk result (λ line. line.items ≡ decimal number ++ (text.now ++ 10 ∷ [])) }
-{
-    let mut line = Vec::new(alloc);
-    push_number(&mut line, number)?;
-    line.extend_from_slice(text.as_bytes())?;
-    line.push(b'\n')?;
-    Ok(line)
-}
-
-fn cql_line(alloc: Global, number: u64, at: usize) -> Result<Vec<u8>, AllocError>
-    ensures { IfOk result (λ line. line.items ≡ error_line_of (ScriptError.Cql number at)) }
-{
-    let mut line = Vec::new(alloc);
-    push_number(&mut line, number)?;
-    line.extend_from_slice(b": cql refused at ")?;
-    push_number(&mut line, at as u64)?;
-    line.push(b'\n')?;
-    Ok(line)
-}
-
-fn error_line(alloc: Global, error: ScriptError) -> Result<Vec<u8>, AllocError>
-    ensures { IfOk result (λ line. line.items ≡ error_line_of error) }
-{
-    match error {
-        ScriptError::Head(number) => numbered_line(alloc, number, ": head expected"),
-        ScriptError::Line(number) => numbered_line(alloc, number, ": line not understood"),
-        ScriptError::Number(number) => numbered_line(alloc, number, ": number out of range"),
-        ScriptError::Cql(number, at) => cql_line(alloc, number, at),
-        ScriptError::TooLong => Vec::from_slice(alloc, b"script too long\n"),
-        ScriptError::TooMany => Vec::from_slice(alloc, b"too many lines\n"),
-    }
-}
-
-/// Tells why the text is no script, or that there is no memory to tell it.
-fn leave_error<T: Sink>(alloc: Global, sink: &mut T, error: ScriptError) -> Status
-    ensures told { result ≡ Status.BadScript → LeavesLine (T.contents sink.old) (T.contents sink.new) (T.faults sink.old) (T.faults sink.new) (error_line_of error) }
-    ensures untold { result ≢ Status.BadScript → result ≡ Status.NoMemory }
-    ensures memory { result ≡ Status.NoMemory → LeavesLine (T.contents sink.old) (T.contents sink.new) (T.faults sink.old) (T.faults sink.new) (codes "no memory\n") }
-{
-    match error_line(alloc, error) {
-        Ok(line) => {
-            leave_line(sink, &line);
-            Status::BadScript
-        }
-        Err(AllocError) => {
-            leave_line(sink, b"no memory\n");
-            Status::NoMemory
-        }
-    }
-}
-
-/// Tells why there is no run in print.
-fn leave_refusal<T: Sink>(alloc: Global, sink: &mut T, refusal: Refusal) -> Status
-    ensures script { result ≡ Status.BadScript → RefusesScript refusal (LeavesLine (T.contents sink.old) (T.contents sink.new) (T.faults sink.old) (T.faults sink.new)) }
-    ensures read_fault { result ≡ Status.ReadFault → refusal ≡ Refusal.ReadFault × LeavesLine (T.contents sink.old) (T.contents sink.new) (T.faults sink.old) (T.faults sink.new) (codes "read fault\n") }
-    ensures memory { result ≡ Status.NoMemory → LeavesLine (T.contents sink.old) (T.contents sink.new) (T.faults sink.old) (T.faults sink.new) (codes "no memory\n") }
-    ensures others { IsRefusalStatus result }
-{
-    match refusal {
-        Refusal::Script(error) => leave_error(alloc, sink, error),
-        Refusal::ReadFault => {
-            leave_line(sink, b"read fault\n");
-            Status::ReadFault
-        }
-        Refusal::NoMemory => {
-            leave_line(sink, b"no memory\n");
-            Status::NoMemory
-        }
+        Some(Command::Help) => told(
+            source,
+            sink,
+            b"usage: script | serve <dir> <port>\nscript              reads a fault script from standard input, runs it, and writes its answers\nserve <dir> <port>  serves connections; reads the head of a script and then console lines from standard input\n--help              writes this\n--version           writes the version, and the toolchain that it is proved with\n",
+        ),
+        Some(Command::Version) => told(
+            source,
+            sink,
+            b"biropuve 0.1.0, proved with rattle-kit-13f\n",
+        ),
+        None => refused(source, sink),
     }
 }
 
 /// Writes what a command tells, and nothing else.
-fn tell<T: Sink>(sink: &mut T, text: &[u8]) -> Status
-    ensures { IsTold (T.contents sink.old) (T.contents sink.new) (T.faults sink.old) (T.faults sink.new) text.now result }
+fn told<S: Source + Drop, T: Sink + Drop>(source: S, sink: T, text: &[u8]) -> Finished<S, T>
+    ensures told { IsTold (T.contents sink) (T.contents result.sink) (T.faults sink) (T.faults result.sink) text.now result.status }
+    ensures source { result.source ≡ source }
 {
-    match write_all(sink, text) {
-        Ok(()) => Status::Ok,
-        Err(Failed) => Status::WriteFault,
+    let mut sink = sink;
+    let status = tell(&mut sink, text);
+    Finished {
+        status,
+        source,
+        sink,
     }
 }
 
-/// Reads a fault script to its end, runs it, and writes the printed chronicle.
-fn run_script<S: Source, T: Sink>(alloc: Global, source: &mut S, sink: &mut T) -> Status
-    ensures ok { result ≡ Status.Ok → IfSome (S.remaining source.old) (λ left. (text : List ℕ) × IsRunOf left text × WritesAll (T.contents sink.old) (T.contents sink.new) text) }
-    ensures end { result ≡ Status.Ok → IfSome (S.remaining source.old) (λ _. S.remaining source.new ≡ Some []) }
-    ensures bad_script { result ≡ Status.BadScript → IfSome (S.remaining source.old) (λ left. (error : ScriptError) × IsRead left (Err error) × LeavesLine (T.contents sink.old) (T.contents sink.new) (T.faults sink.old) (T.faults sink.new) (error_line_of error)) }
-    ensures read_fault { result ≡ Status.ReadFault → HasRisen (S.faults source.old) (S.faults source.new) × LeavesLine (T.contents sink.old) (T.contents sink.new) (T.faults sink.old) (T.faults sink.new) (codes "read fault\n") }
-    ensures write_fault { result ≡ Status.WriteFault → HasRisen (T.faults sink.old) (T.faults sink.new) }
-    ensures written { result ≡ Status.WriteFault → IfSome (S.remaining source.old) (λ left. (text : List ℕ) × IsRunOf left text × WritesFront (T.contents sink.old) (T.contents sink.new) text) }
-    ensures statuses { (result ≡ Status.Ok) ⊎ (result ≡ Status.WriteFault) ⊎ IsRefusalStatus result }
-    ensures refused { IfSome (S.remaining source.old) (λ left. (error : ScriptError) → IsRead left (Err error) → IsRefusedWith (S.faults source.old) (S.faults source.new) result) }
-    ensures served { IfSome (S.remaining source.old) (λ left. (script : script_value) → IsRead left (Ok script) → IsServedWith (S.faults source.old) (S.faults source.new) (T.faults sink.old) (T.faults sink.new) result) }
-    ensures no_memory { result ≡ Status.NoMemory → LeavesLine (T.contents sink.old) (T.contents sink.new) (T.faults sink.old) (T.faults sink.new) (codes "no memory\n") }
+/// Tells which words name a command.
+fn refused<S: Source + Drop, T: Sink + Drop>(source: S, sink: T) -> Finished<S, T>
+    ensures status { result.status ≡ Status.Usage }
+    ensures told { LeavesLine (T.contents sink) (T.contents result.sink) (T.faults sink) (T.faults result.sink) usage_line }
+    ensures source { result.source ≡ source }
 {
-    one_reading();
-    match print_run(alloc, source) {
-        Ok(text) => match write_all(sink, &text) {
-            Ok(()) => Status::Ok,
-            Err(Failed) => Status::WriteFault,
-        },
-        Err(refusal) => leave_refusal(alloc, sink, refusal),
-    }
-}
-
-/// Runs the command that the words name. `script` reads a fault script to its end, runs it, and writes the printed
-/// chronicle; `--help` and `--version` tell of the program.
-pub fn run_cluster<S: Source, T: Sink>(
-    alloc: Global,
-    words: &[String],
-    source: &mut S,
-    sink: &mut T,
-) -> Status
-    ensures usage { result ≡ Status.Usage ↔ command_named (map string_bytes words.now) ≡ None }
-    ensures usage_line { result ≡ Status.Usage → LeavesLine (T.contents sink.old) (T.contents sink.new) (T.faults sink.old) (T.faults sink.new) usage_line }
-    ensures help { command_named (map string_bytes words.now) ≡ Some Command.Help → IsTold (T.contents sink.old) (T.contents sink.new) (T.faults sink.old) (T.faults sink.new) help_text result }
-    ensures version { command_named (map string_bytes words.now) ≡ Some Command.Version → IsTold (T.contents sink.old) (T.contents sink.new) (T.faults sink.old) (T.faults sink.new) version_text result }
-    ensures ok { command_named (map string_bytes words.now) ≡ Some Command.Script → result ≡ Status.Ok → IfSome (S.remaining source.old) (λ left. (text : List ℕ) × IsRunOf left text × WritesAll (T.contents sink.old) (T.contents sink.new) text) }
-    ensures end { command_named (map string_bytes words.now) ≡ Some Command.Script → result ≡ Status.Ok → IfSome (S.remaining source.old) (λ _. S.remaining source.new ≡ Some []) }
-    ensures bad_script { result ≡ Status.BadScript → IfSome (S.remaining source.old) (λ left. (error : ScriptError) × IsRead left (Err error) × LeavesLine (T.contents sink.old) (T.contents sink.new) (T.faults sink.old) (T.faults sink.new) (error_line_of error)) }
-    ensures read_fault { result ≡ Status.ReadFault → HasRisen (S.faults source.old) (S.faults source.new) × LeavesLine (T.contents sink.old) (T.contents sink.new) (T.faults sink.old) (T.faults sink.new) (codes "read fault\n") }
-    ensures write_fault { result ≡ Status.WriteFault → HasRisen (T.faults sink.old) (T.faults sink.new) }
-    ensures written { command_named (map string_bytes words.now) ≡ Some Command.Script → result ≡ Status.WriteFault → IfSome (S.remaining source.old) (λ left. (text : List ℕ) × IsRunOf left text × WritesFront (T.contents sink.old) (T.contents sink.new) text) }
-    ensures statuses { (result ≡ Status.Ok) ⊎ (result ≡ Status.Usage) ⊎ (result ≡ Status.WriteFault) ⊎ IsRefusalStatus result }
-    ensures refused { IfSome (S.remaining source.old) (λ left. (error : ScriptError) → IsRead left (Err error) → command_named (map string_bytes words.now) ≡ Some Command.Script → IsRefusedWith (S.faults source.old) (S.faults source.new) result) }
-    ensures served { IfSome (S.remaining source.old) (λ left. (script : script_value) → IsRead left (Ok script) → command_named (map string_bytes words.now) ≡ Some Command.Script → IsServedWith (S.faults source.old) (S.faults source.new) (T.faults sink.old) (T.faults sink.new) result) }
-    ensures no_memory { result ≡ Status.NoMemory → LeavesLine (T.contents sink.old) (T.contents sink.new) (T.faults sink.old) (T.faults sink.new) (codes "no memory\n") }
-{
-    match command_of(words) {
-        Some(Command::Script) => run_script(alloc, source, sink),
-        Some(Command::Help) => tell(
-            sink,
-            b"usage: script\nscript      reads a fault script from standard input, runs it, and writes its answers\n--help      writes this\n--version   writes the version, and the toolchain that it is proved with\n",
-        ),
-        Some(Command::Version) => tell(sink, b"biropuve 0.1.0, proved with rattle-kit-13b\n"),
-        None => {
-            leave_line(sink, b"usage: script\n");
-            Status::Usage
-        }
+    let mut sink = sink;
+    leave_line(&mut sink, b"usage: script | serve <dir> <port>\n");
+    Finished {
+        status: Status::Usage,
+        source,
+        sink,
     }
 }

@@ -33,7 +33,10 @@ fn mends_what_it_meets(rt: HostRuntime) -> Result<(), Fail> {
         ),
     ];
     for (lines, want) in &cases {
-        assert!(rt; three_nodes_answer(rt.alloc(), lines, want)?, "{lines}");
+        assert!(rt;
+            three_nodes_answer(&rt, rt.alloc(), lines, want)?,
+            "{lines}"
+        );
     }
     Ok(())
 }
@@ -62,7 +65,10 @@ fn tells_who_is_mended(rt: HostRuntime) -> Result<(), Fail> {
         ),
     ];
     for (lines, want) in &cases {
-        assert!(rt; three_nodes_answer(rt.alloc(), lines, want)?, "{lines}");
+        assert!(rt;
+            three_nodes_answer(&rt, rt.alloc(), lines, want)?,
+            "{lines}"
+        );
     }
     Ok(())
 }

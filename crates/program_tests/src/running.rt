@@ -1,9 +1,16 @@
 //! Worked scripts, with answers that were written by hand.
 
-use cluster_program::{Status, run_cluster};
-use cs_io::{MemSink, MemSource};
+use cluster_program::{Finished, Status, run_cluster};
+use cs_base::Micros;
+use cs_doors::MemDoors;
+use cs_io::{MemSink, MemSource, OpenGate};
+use cs_runtime::{ListSpawner, SetClock};
+use cs_store::MemStores;
 use std::alloc::{AllocError, Global};
+use std::collections::VecDeque;
+use std::sync::Wait;
 use std::test::Fail;
+use std::thread::Threads;
 
 /// What a run ended with, and what it wrote.
 #[derive(Drop)]
@@ -46,20 +53,47 @@ fn source_of(alloc: Global, script: &str, outside: &Outside<'_>) -> Result<MemSo
     Ok(MemSource::new(bytes, outside.most, failing))
 }
 
-fn run(
+/// The program on these streams, with stores, doors, a clock and threads with which a script has nothing to do.
+pub(crate) fn run_program<R: Threads + Wait + Sync>(
+    rt: &R,
+    alloc: Global,
+    words: &[String],
+    source: MemSource,
+    sink: MemSink,
+) -> Result<Finished<MemSource, MemSink>, AllocError> {
+    let mut stores = MemStores::formatted(alloc)?;
+    let mut doors = MemDoors::new(alloc, VecDeque::new(alloc), Vec::new(alloc));
+    let clock = SetClock::new(vec![in alloc; Micros::new(0)]?);
+    let mut spawner = ListSpawner::new(rt, Vec::new(alloc));
+    Ok(run_cluster(
+        rt,
+        alloc,
+        words,
+        source,
+        sink,
+        &mut stores,
+        &mut doors,
+        &clock,
+        &mut spawner,
+        &OpenGate,
+    ))
+}
+
+fn run<R: Threads + Wait + Sync>(
+    rt: &R,
     alloc: Global,
     command: &str,
     script: &str,
     outside: &Outside<'_>,
 ) -> Result<Ended, AllocError> {
     let words = words_of(alloc, command)?;
-    let mut source = source_of(alloc, script, outside)?;
+    let source = source_of(alloc, script, outside)?;
     let failing = Vec::from_slice(alloc, outside.failing_writes)?;
-    let mut sink = MemSink::new(alloc, outside.most, failing);
-    let status = run_cluster(alloc, &words, &mut source, &mut sink);
+    let sink = MemSink::new(alloc, outside.most, failing);
+    let finished = run_program(rt, alloc, &words, source, sink)?;
     Ok(Ended {
-        status,
-        text: Vec::from_slice(alloc, sink.bytes())?,
+        status: finished.status,
+        text: Vec::from_slice(alloc, finished.sink.bytes())?,
     })
 }
 
@@ -72,13 +106,25 @@ fn behind(alloc: Global, head: &str, lines: &str) -> Result<String, AllocError> 
 }
 
 /// Whether the script is run so, and prints this.
-fn ends_with(alloc: Global, script: &str, status: Status, want: &str) -> Result<bool, AllocError> {
-    Ok(run(alloc, "script", script, &SOUND)?.is(status, want))
+fn ends_with<R: Threads + Wait + Sync>(
+    rt: &R,
+    alloc: Global,
+    script: &str,
+    status: Status,
+    want: &str,
+) -> Result<bool, AllocError> {
+    Ok(run(rt, alloc, "script", script, &SOUND)?.is(status, want))
 }
 
 /// Whether these lines print this behind the head of one node.
-fn one_node_answers(alloc: Global, lines: &str, want: &str) -> Result<bool, AllocError> {
+fn one_node_answers<R: Threads + Wait + Sync>(
+    rt: &R,
+    alloc: Global,
+    lines: &str,
+    want: &str,
+) -> Result<bool, AllocError> {
     ends_with(
+        rt,
         alloc,
         behind(alloc, HEAD, lines)?.as_str(),
         Status::Ok,
@@ -110,7 +156,7 @@ fn answers_scripts(rt: HostRuntime) -> Result<(), Fail> {
         ("", ""),
     ];
     for (lines, want) in &cases {
-        assert!(rt; one_node_answers(rt.alloc(), lines, want)?, "{lines}");
+        assert!(rt; one_node_answers(&rt, rt.alloc(), lines, want)?, "{lines}");
     }
     Ok(())
 }
@@ -139,18 +185,23 @@ fn answers_scripts_of_three_nodes(rt: HostRuntime) -> Result<(), Fail> {
         ),
     ];
     for (lines, want) in &cases {
-        assert!(rt; three_nodes_answer(rt.alloc(), lines, want)?, "{lines}");
+        assert!(rt;
+            three_nodes_answer(&rt, rt.alloc(), lines, want)?,
+            "{lines}"
+        );
     }
     Ok(())
 }
 
 /// Whether these lines print this behind the head of three nodes.
-pub(crate) fn three_nodes_answer(
+pub(crate) fn three_nodes_answer<R: Threads + Wait + Sync>(
+    rt: &R,
     alloc: Global,
     lines: &str,
     want: &str,
 ) -> Result<bool, AllocError> {
     ends_with(
+        rt,
         alloc,
         behind(alloc, HEAD_OF_THREE, lines)?.as_str(),
         Status::Ok,
@@ -185,7 +236,10 @@ fn loads_what_was_kept(rt: HostRuntime) -> Result<(), Fail> {
         ),
     ];
     for (lines, want) in &cases {
-        assert!(rt; three_nodes_answer(rt.alloc(), lines, want)?, "{lines}");
+        assert!(rt;
+            three_nodes_answer(&rt, rt.alloc(), lines, want)?,
+            "{lines}"
+        );
     }
     Ok(())
 }
@@ -212,7 +266,10 @@ fn takes_messages_in_their_time(rt: HostRuntime) -> Result<(), Fail> {
         ),
     ];
     for (lines, want) in &cases {
-        assert!(rt; three_nodes_answer(rt.alloc(), lines, want)?, "{lines}");
+        assert!(rt;
+            three_nodes_answer(&rt, rt.alloc(), lines, want)?,
+            "{lines}"
+        );
     }
     Ok(())
 }
@@ -231,7 +288,7 @@ fn answers_through_stops(rt: HostRuntime) -> Result<(), Fail> {
         ),
     ];
     for (lines, want) in &cases {
-        assert!(rt; one_node_answers(rt.alloc(), lines, want)?, "{lines}");
+        assert!(rt; one_node_answers(&rt, rt.alloc(), lines, want)?, "{lines}");
     }
     Ok(())
 }
@@ -240,8 +297,14 @@ const HEAD_OF_KS: &str =
     "cassandra-script 1\nring 0\nrf 1\nschema CREATE KEYSPACE ks WITH replication = {'class': 'SimpleStrategy', 'replication_factor': 1}\nschema CREATE TABLE ks.t (k int, c int, v text, PRIMARY KEY (k, c))\nrun\n";
 
 /// Whether these lines print this behind the head with the table `ks.t`.
-fn table_answers(alloc: Global, lines: &str, want: &str) -> Result<bool, AllocError> {
+fn table_answers<R: Threads + Wait + Sync>(
+    rt: &R,
+    alloc: Global,
+    lines: &str,
+    want: &str,
+) -> Result<bool, AllocError> {
     ends_with(
+        rt,
         alloc,
         behind(alloc, HEAD_OF_KS, lines)?.as_str(),
         Status::Ok,
@@ -275,7 +338,7 @@ fn answers_statements(rt: HostRuntime) -> Result<(), Fail> {
         ),
     ];
     for (lines, want) in &cases {
-        assert!(rt; table_answers(rt.alloc(), lines, want)?, "{lines}");
+        assert!(rt; table_answers(&rt, rt.alloc(), lines, want)?, "{lines}");
     }
     Ok(())
 }
@@ -298,7 +361,7 @@ fn answers_in_their_order(rt: HostRuntime) -> Result<(), Fail> {
         ),
     ];
     for (lines, want) in &cases {
-        assert!(rt; table_answers(rt.alloc(), lines, want)?, "{lines}");
+        assert!(rt; table_answers(&rt, rt.alloc(), lines, want)?, "{lines}");
     }
     Ok(())
 }
@@ -348,7 +411,7 @@ fn refuses_what_is_no_script(rt: HostRuntime) -> Result<(), Fail> {
     ];
     for (script, want) in &cases {
         assert!(rt;
-            ends_with(rt.alloc(), script, Status::BadScript, want)?,
+            ends_with(&rt, rt.alloc(), script, Status::BadScript, want)?,
             "{script}"
         );
     }
@@ -356,7 +419,9 @@ fn refuses_what_is_no_script(rt: HostRuntime) -> Result<(), Fail> {
 }
 
 const HELP: &str =
-    "usage: script\nscript      reads a fault script from standard input, runs it, and writes its answers\n--help      writes this\n--version   writes the version, and the toolchain that it is proved with\n";
+    "usage: script | serve <dir> <port>\nscript              reads a fault script from standard input, runs it, and writes its answers\nserve <dir> <port>  serves connections; reads the head of a script and then console lines from standard input\n--help              writes this\n--version           writes the version, and the toolchain that it is proved with\n";
+
+const USAGE: &str = "usage: script | serve <dir> <port>\n";
 
 #[test]
 fn tells_of_itself(rt: HostRuntime) -> Result<(), Fail> {
@@ -365,13 +430,20 @@ fn tells_of_itself(rt: HostRuntime) -> Result<(), Fail> {
         (
             "--version",
             Status::Ok,
-            "biropuve 0.1.0, proved with rattle-kit-13b\n",
+            "biropuve 0.1.0, proved with rattle-kit-13f\n",
         ),
-        ("--help --version", Status::Usage, "usage: script\n"),
-        ("", Status::Usage, "usage: script\n"),
+        ("--help --version", Status::Usage, USAGE),
+        ("", Status::Usage, USAGE),
+        ("serve rows", Status::Usage, USAGE),
+        ("serve rows 1023", Status::Usage, USAGE),
+        ("serve rows 65530", Status::Usage, USAGE),
+        ("serve rows 09042", Status::Usage, USAGE),
+        ("serve rows 9042 now", Status::Usage, USAGE),
+        ("serve rows 1024", Status::BadScript, "1: head expected\n"),
+        ("serve rows 65529", Status::BadScript, "1: head expected\n"),
     ];
     for (words, status, text) in &cases {
-        let ended = run(rt.alloc(), words, "no script", &SOUND)?;
+        let ended = run(&rt, rt.alloc(), words, "no script", &SOUND)?;
         assert!(rt; ended.is(*status, text), "{words}");
     }
     Ok(())
@@ -381,8 +453,8 @@ fn tells_of_itself(rt: HostRuntime) -> Result<(), Fail> {
 fn tells_faults_apart(rt: HostRuntime) -> Result<(), Fail> {
     let script = behind(rt.alloc(), HEAD, "put 0 ONE k a 5 x\n")?;
     let cases = [
-        ("scripts", SOUND, Status::Usage, "usage: script\n"),
-        ("script now", SOUND, Status::Usage, "usage: script\n"),
+        ("scripts", SOUND, Status::Usage, USAGE),
+        ("script now", SOUND, Status::Usage, USAGE),
         (
             "script",
             Outside {
@@ -425,7 +497,7 @@ fn tells_faults_apart(rt: HostRuntime) -> Result<(), Fail> {
         ),
     ];
     for (word, outside, status, text) in &cases {
-        let ended = run(rt.alloc(), word, script.as_str(), outside)?;
+        let ended = run(&rt, rt.alloc(), word, script.as_str(), outside)?;
         assert!(rt; ended.is(*status, text), "{word} {text}");
     }
     Ok(())

@@ -1,10 +1,13 @@
 //! A script in which a node stops at each call of its store in turn, and is loaded again, against a plain model of what it may
 //! answer.
 
-use cluster_program::{Status, run_cluster};
+use crate::running::run_program;
+use cluster_program::Status;
 use cs_io::{MemSink, MemSource};
 use std::alloc::{AllocError, Global};
+use std::sync::Wait;
 use std::test::Fail;
+use std::thread::Threads;
 
 /// A value is a digit, which is its timestamp too. Nothing is below it.
 const NOTHING: u8 = b'0';
@@ -162,15 +165,16 @@ fn script(alloc: Global, call: u32, outcome: &str) -> Result<String, AllocError>
 }
 
 /// What the program prints of a script.
-fn printed(alloc: Global, script: &str) -> Result<String, Fail> {
+fn printed<R: Threads + Wait + Sync>(rt: &R, alloc: Global, script: &str) -> Result<String, Fail> {
     let words = vec![in alloc; String::from_str(alloc, "script")?]?;
     let bytes = Vec::from_slice(alloc, script.as_bytes())?;
-    let mut source = MemSource::new(bytes, 1000, Vec::new(alloc));
-    let mut sink = MemSink::new(alloc, 1000, Vec::new(alloc));
-    if run_cluster(alloc, &words, &mut source, &mut sink) != Status::Ok {
+    let source = MemSource::new(bytes, 1000, Vec::new(alloc));
+    let sink = MemSink::new(alloc, 1000, Vec::new(alloc));
+    let finished = run_program(rt, alloc, &words, source, sink)?;
+    if finished.status != Status::Ok {
         return Err("the script is not run".into());
     }
-    Ok(String::from_str(alloc, std::str::from_utf8(sink.bytes())?)?)
+    Ok(String::from_str(alloc, std::str::from_utf8(finished.sink.bytes())?)?)
 }
 
 /// A cell that the answer of the request shows.
@@ -348,8 +352,13 @@ fn has_stopped(alloc: Global, text: &str, outcome: &str, call: u32) -> Result<bo
 }
 
 /// Whether node 1 stops at this call.
-fn stops_at(alloc: Global, call: u32, outcome: &str) -> Result<bool, Fail> {
-    let text = printed(alloc, script(alloc, call, outcome)?.as_str())?;
+fn stops_at<R: Threads + Wait + Sync>(
+    rt: &R,
+    alloc: Global,
+    call: u32,
+    outcome: &str,
+) -> Result<bool, Fail> {
+    let text = printed(rt, alloc, script(alloc, call, outcome)?.as_str())?;
     if has_stopped(alloc, text.as_str(), outcome, call)? {
         return Ok(true);
     }
@@ -360,9 +369,9 @@ fn stops_at(alloc: Global, call: u32, outcome: &str) -> Result<bool, Fail> {
 }
 
 /// At how many calls node 1 stops, with this outcome, until there is none left.
-fn stops(alloc: Global, outcome: &str) -> Result<u32, Fail> {
+fn stops<R: Threads + Wait + Sync>(rt: &R, alloc: Global, outcome: &str) -> Result<u32, Fail> {
     for call in 1..100 {
-        if !stops_at(alloc, call, outcome)? {
+        if !stops_at(rt, alloc, call, outcome)? {
             return Ok(call.saturating_sub(1));
         }
     }
@@ -373,7 +382,7 @@ fn stops(alloc: Global, outcome: &str) -> Result<u32, Fail> {
 #[test]
 fn acknowledged_writes_outlive_stops(rt: HostRuntime) -> Result<(), Fail> {
     for outcome in ["kept", "lost", "torn"] {
-        assert!(rt; stops(rt.alloc(), outcome)? == 28, "{outcome}");
+        assert!(rt; stops(&rt, rt.alloc(), outcome)? == 28, "{outcome}");
     }
     Ok(())
 }

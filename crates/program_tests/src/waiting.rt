@@ -37,7 +37,10 @@ fn tells_deadlines(rt: HostRuntime) -> Result<(), Fail> {
         ),
     ];
     for (lines, want) in &cases {
-        assert!(rt; three_nodes_answer(rt.alloc(), lines, want)?, "{lines}");
+        assert!(rt;
+            three_nodes_answer(&rt, rt.alloc(), lines, want)?,
+            "{lines}"
+        );
     }
     Ok(())
 }
@@ -61,7 +64,10 @@ fn sees_marks(rt: HostRuntime) -> Result<(), Fail> {
         ),
     ];
     for (lines, want) in &cases {
-        assert!(rt; three_nodes_answer(rt.alloc(), lines, want)?, "{lines}");
+        assert!(rt;
+            three_nodes_answer(&rt, rt.alloc(), lines, want)?,
+            "{lines}"
+        );
     }
     Ok(())
 }
@@ -95,7 +101,10 @@ fn hands_hints_over(rt: HostRuntime) -> Result<(), Fail> {
         ),
     ];
     for (lines, want) in &cases {
-        assert!(rt; three_nodes_answer(rt.alloc(), lines, want)?, "{lines}");
+        assert!(rt;
+            three_nodes_answer(&rt, rt.alloc(), lines, want)?,
+            "{lines}"
+        );
     }
     Ok(())
 }
@@ -107,6 +116,6 @@ fn refuses_too_many(rt: HostRuntime) -> Result<(), Fail> {
     for _ in 0..1025 {
         lines.push_str("get 0 QUORUM k\n")?;
     }
-    assert!(rt; three_nodes_answer(rt.alloc(), lines.as_str(), "1025 overloaded\n")?);
+    assert!(rt; three_nodes_answer(&rt, rt.alloc(), lines.as_str(), "1025 overloaded\n")?);
     Ok(())
 }

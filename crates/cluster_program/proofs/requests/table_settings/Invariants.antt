@@ -1,6 +1,0 @@
-use Rattle.std.proofs.Common.{◌≡◌, map, take}
-use Rattle.cluster_program.specs.Requests.{table_setting}
-use Rattle.cluster_program.proofs.requests.table_settings.Given as goal
-
-abbrev pub invariant-loop-table : goal.invariant-loop-table
-invariant-loop-table l = l.settings ≡ map table_setting (take l.table-index l.tables)

@@ -1,5 +1,0 @@
-use Rattle.cluster_program.proofs.KvLaws.{number_stands}
-use Rattle.cluster_program.proofs.statements.number_is_read.Goals as goal
-
-pub returns : goal.returns
-returns c = number_stands c.reading_undoes_printing.ensures.value c.args.number c.ranges.number

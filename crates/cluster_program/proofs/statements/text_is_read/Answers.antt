@@ -1,7 +1,0 @@
-use Rattle.std.proofs.Common.{subst}
-use Rattle.std.specs.Str.{IsUtf8}
-use Rattle.cluster_program.proofs.KvLaws.{text_stands}
-use Rattle.cluster_program.proofs.statements.text_is_read.Goals as goal
-
-pub returns : goal.returns
-returns c = text_stands c.reading_undoes_printing.ensures.value c.args.text.now (subst IsUtf8 c.as_bytes.ensures.value c.as_bytes.ensures.utf8)

@@ -1,0 +1,234 @@
+//! How served runs end, and what they tell.
+
+use crate::clients::{AT_ONE, READY, two_writers};
+use crate::holding::UntilAnswered;
+use crate::running::{Failing, NOTHING, OPENING, TWO_NODES, serve};
+use cluster_program::Status;
+use cs_base::NodeId;
+use cs_io::{HoldGate, MemSource, OpenGate, Passage, Point};
+use cs_runtime::SysClock;
+use cs_store::{FileNo, MemStore, MemStores, Store, Stores};
+use std::alloc::{AllocError, Global};
+use std::collections::VecDeque;
+use std::test::Fail;
+
+/// How many calls of a formatted store a load makes.
+const CALLS_OF_A_LOAD: u32 = 4;
+
+fn lines(alloc: Global, texts: &[&str], failing: &[u64]) -> Result<MemSource, AllocError> {
+    let mut bytes = Vec::new(alloc);
+    for text in texts {
+        bytes.extend_from_slice(text.as_bytes())?;
+    }
+    Ok(MemSource::new(bytes, 64, Vec::from_slice(alloc, failing)?))
+}
+
+// Stores, of which that of a node has this done to it before the run.
+fn stores_where(alloc: Global, node: NodeId, change: fn(&mut MemStore)) -> Result<MemStores, Fail> {
+    let mut stores = MemStores::formatted(alloc)?;
+    let mut store = stores.take("", node)?;
+    change(&mut store);
+    stores.back(node, store);
+    Ok(stores)
+}
+
+// The console's lines are answered one after another, and those behind `stop` are not read.
+#[test]
+fn lines_are_answered(rt: HostRuntime) -> Result<(), Fail> {
+    let alloc = rt.alloc();
+    let asked = "status\nmark 0 1 down\n\nmark 0 0 down\nflush 1\nmerge 0\nstop\nstatus\n";
+    let source = lines(alloc, &[TWO_NODES, asked], &[])?;
+    let mut stores = MemStores::formatted(alloc)?;
+    let left = serve(
+        &rt,
+        alloc,
+        source,
+        &mut stores,
+        VecDeque::new(alloc),
+        &SysClock::new(rt),
+        &OpenGate,
+        NOTHING,
+    )?;
+    let answers = "ok\nok\n?\n?\ntables 0\ntables 0\n";
+    assert!(rt; left.is(Status::Ok, &[OPENING, answers, "closed\n"]));
+    assert_eq!(rt; left.doors.returned().len(), 32);
+    Ok(())
+}
+
+// Each fault of the outside ends a run by its own status and line.
+#[test]
+fn faults_are_told(rt: HostRuntime) -> Result<(), Fail> {
+    let alloc = rt.alloc();
+    let cases: [(&[&str], &[u64], Failing, Status, &[&str]); 9] = [
+        (
+            &[],
+            &[],
+            NOTHING,
+            Status::BadScript,
+            &["1: head expected\n"],
+        ),
+        (
+            &["cassandra-script 1\nring 0\nrf 2\nrun\n"],
+            &[],
+            NOTHING,
+            Status::BadScript,
+            &["3: number out of range\n"],
+        ),
+        (
+            &[TWO_NODES],
+            &[1],
+            NOTHING,
+            Status::ReadFault,
+            &["read fault\n"],
+        ),
+        (
+            &[TWO_NODES],
+            &[2],
+            NOTHING,
+            Status::ReadFault,
+            &[OPENING, "read fault\n"],
+        ),
+        (
+            &[TWO_NODES],
+            &[],
+            Failing {
+                writes: &[1],
+                ..NOTHING
+            },
+            Status::WriteFault,
+            &[],
+        ),
+        (
+            &[TWO_NODES],
+            &[],
+            Failing {
+                writes: &[2],
+                ..NOTHING
+            },
+            Status::WriteFault,
+            &[OPENING],
+        ),
+        (
+            &[TWO_NODES],
+            &[],
+            Failing {
+                listens: &[1],
+                ..NOTHING
+            },
+            Status::DoorFault,
+            &["door fault\n"],
+        ),
+        (
+            &[TWO_NODES],
+            &[],
+            Failing {
+                listens: &[32],
+                ..NOTHING
+            },
+            Status::DoorFault,
+            &["door fault\n"],
+        ),
+        (
+            &[TWO_NODES],
+            &[],
+            Failing {
+                starts: &[1],
+                ..NOTHING
+            },
+            Status::NoThread,
+            &["no thread\n"],
+        ),
+    ];
+    for (texts, reads, failing, status, told) in cases {
+        let source = lines(alloc, texts, reads)?;
+        let mut stores = MemStores::formatted(alloc)?;
+        let left = serve(
+            &rt,
+            alloc,
+            source,
+            &mut stores,
+            VecDeque::new(alloc),
+            &SysClock::new(rt),
+            &OpenGate,
+            failing,
+        )?;
+        assert!(rt; left.is(status, told), "{status:?} {:?}", left.status);
+    }
+    Ok(())
+}
+
+// The file of a log without its first byte is no log.
+#[test]
+fn a_damaged_log_is_told(rt: HostRuntime) -> Result<(), Fail> {
+    let alloc = rt.alloc();
+    let mut stores = stores_where(alloc, NodeId::FIRST, |store| {
+        let _ = store.cut(FileNo::new(0).unwrap(), 0);
+    })?;
+    let source = lines(alloc, &[TWO_NODES], &[])?;
+    let left = serve(
+        &rt,
+        alloc,
+        source,
+        &mut stores,
+        VecDeque::new(alloc),
+        &SysClock::new(rt),
+        &OpenGate,
+        NOTHING,
+    )?;
+    assert!(rt; left.is(Status::Damaged, &["damaged 0 0 0\n"]));
+    Ok(())
+}
+
+// A node whose store fails answers nobody any more, and ends the run.
+#[test]
+fn a_failed_store_is_told(rt: HostRuntime) -> Result<(), Fail> {
+    let alloc = rt.alloc();
+    let nodes = [NodeId::FIRST, NodeId::new(1).ok_or("a node")?];
+    let never = Passage {
+        node: nodes[0],
+        point: Point::Taken,
+        number: 1_000,
+    };
+    let gate = HoldGate::new(never, never, 1_000_000);
+    let source = UntilAnswered::new(TWO_NODES, &gate, nodes);
+    let mut stores = stores_where(alloc, nodes[1], |store| store.fail_at(CALLS_OF_A_LOAD + 1))?;
+    let plans = two_writers(alloc, AT_ONE)?;
+    let left = serve(
+        &rt,
+        alloc,
+        source,
+        &mut stores,
+        plans,
+        &SysClock::new(rt),
+        &gate,
+        NOTHING,
+    )?;
+    assert!(rt; left.is(Status::StoreFault, &[OPENING, "store fault 1\n"]));
+    assert_eq!(rt; left.sent_at(1), Some(READY));
+    Ok(())
+}
+
+// Each line that has a node write its tables is a step of its history.
+#[test]
+fn a_full_history_is_told(rt: HostRuntime) -> Result<(), Fail> {
+    let alloc = rt.alloc();
+    let mut text = Vec::from_slice(alloc, b"cassandra-script 1\nring 0\nrf 1\nrun\n")?;
+    for _ in 0..400_001 {
+        text.extend_from_slice(b"flush 0\n")?;
+    }
+    let source = MemSource::new(text, 65_536, Vec::new(alloc));
+    let mut stores = MemStores::formatted(alloc)?;
+    let left = serve(
+        &rt,
+        alloc,
+        source,
+        &mut stores,
+        VecDeque::new(alloc),
+        &SysClock::new(rt),
+        &OpenGate,
+        NOTHING,
+    )?;
+    assert_eq!(rt; left.status, Status::HistoryFull);
+    assert!(rt; left.text.ends_with(b"\ntables 0\nfull\nhistory full 0\n"));
+    Ok(())
+}

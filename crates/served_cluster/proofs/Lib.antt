@@ -1,0 +1,10 @@
+mod Console
+mod Doors
+mod Jobs
+mod Lists
+mod Moves
+mod Nodes
+mod Parts
+mod Said
+mod Told
+mod Zips

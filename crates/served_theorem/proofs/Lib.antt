@@ -1,0 +1,15 @@
+mod Lists
+mod Calls
+mod Others
+mod Entries
+mod Jobs
+mod Consoles
+mod Places
+mod Sent
+mod Counts
+mod Going
+mod Told
+mod Chronicles
+mod Visiting
+mod Answering
+mod Formatted
