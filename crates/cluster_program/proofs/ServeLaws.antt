@@ -1,5 +1,5 @@
 -- How the command `serve` ends.
-use Rattle.std.proofs.Common.{◌≡◌, ℕ, ◌≤◌, inl, inr, length, Some, None, refl, sym, subst, IfSome}
+use Rattle.std.proofs.Common.{◌≡◌, ℕ, ◌≤◌, inl, inr, length, Option, Some, None, refl, sym, subst, IfSome}
 use Rattle.cs_base.specs.Faults.{HasRisen}
 use Rattle.fault_script.specs.declared.script.Script.{Script}
 use Rattle.peer_messages.specs.declared.setting.Setting.{Setting}
@@ -15,7 +15,7 @@ use Rattle.script_program.specs.declared.program.Status.{Status}
 use Rattle.cluster_program.specs.Endings.{TellsEnd}
 use Rattle.cluster_program.specs.Heads.{IsHead, listening_lines}
 use Rattle.cluster_program.specs.Runs.{Serves}
-use Rattle.cluster_program.specs.Serving.{Kinds, Session, ServeEnds}
+use Rattle.cluster_program.specs.Serving.{Kinds, GoesOnARun, Session, ServeEnds}
 
 -- ---- why a run ended
 
@@ -60,20 +60,25 @@ module _ (W G K : Type 0) {R D L C S T : Type 0} (k : Kinds R D L C S T) (clock 
   abbrev Caused : Begun → Type 0 → ServedEnd → Type 0
   Caused x doors_rose e = Cause W G K k x.host (setting_of x.script) x.desk doors_rose counted old new x.run e
 
-  session_ends : (x : Begun) (doors_rose : Type 0) (e : ServedEnd) (s : Status) → x.run.end ≡ e → Caused x doors_rose e → Told x e s → Ends s
-  session_ends x doors_rose served.Closed s is cause (inl told) = subst Ends (sym told.0) (x, cause, told.1)
-  session_ends x doors_rose served.Closed s is cause (inr told) = subst Ends (sym told.0) (x, inr (cause, told.1))
-  session_ends x doors_rose served.ReadFault s is cause told = subst Ends (sym told.0) (inr (x, is, told.1))
-  session_ends x doors_rose served.WriteFault s is cause told = subst Ends (sym told.0) (x, inl (is, told.1))
-  session_ends x doors_rose (served.StoreFault n) s is cause (inl told) = subst Ends (sym told.0) (n, cause, (x, is, told.1))
-  session_ends x doors_rose (served.StoreFault n) s is cause (inr told) = subst Ends (sym told.0) (inr (x, told.1))
-  session_ends x doors_rose served.NoMemory s is cause told = subst Ends (sym told.0) (inr (x, told.1))
-  session_ends x doors_rose served.DoorFault s is cause told = subst Ends (sym told.0) (x, is, told.1)
-  session_ends x doors_rose served.NoThread s is cause told = subst Ends (sym told.0) (x, is, told.1)
-  session_ends x doors_rose (served.HistoryFull n) s is cause (inl told) = subst Ends (sym told.0) (n, x, cause, told.1)
-  session_ends x doors_rose (served.HistoryFull n) s is cause (inr told) = subst Ends (sym told.0) (inr (x, told.1))
-  session_ends x doors_rose (served.Damaged n f p) s is cause (inl told) = subst Ends (sym told.0) (n, f, p, cause, (x, is, told.1))
-  session_ends x doors_rose (served.Damaged n f p) s is cause (inr told) = subst Ends (sym told.0) (inr (x, told.1))
+  abbrev GoesOn : Begun → Type 0
+  GoesOn x =
+      (full : Option ℕ) (h : IsServed K k.replica k.door k.gives k.streams x.host x.desk counted (setting_of x.script) old new x.run full)
+      → GoesOnARun W G K k x.host x.desk counted (setting_of x.script) old new x.run full h
+
+  session_ends : (x : Begun) (doors_rose : Type 0) (e : ServedEnd) (s : Status) → GoesOn x → x.run.end ≡ e → Caused x doors_rose e → Told x e s → Ends s
+  session_ends x doors_rose served.Closed s goes is cause (inl told) = subst Ends (sym told.0) (x, cause, goes None cause, told.1)
+  session_ends x doors_rose served.Closed s goes is cause (inr told) = subst Ends (sym told.0) (x, inr (cause, told.1))
+  session_ends x doors_rose served.ReadFault s goes is cause told = subst Ends (sym told.0) (inr (x, is, told.1))
+  session_ends x doors_rose served.WriteFault s goes is cause told = subst Ends (sym told.0) (x, inl (is, told.1))
+  session_ends x doors_rose (served.StoreFault n) s goes is cause (inl told) = subst Ends (sym told.0) (n, cause, (x, is, told.1))
+  session_ends x doors_rose (served.StoreFault n) s goes is cause (inr told) = subst Ends (sym told.0) (inr (x, told.1))
+  session_ends x doors_rose served.NoMemory s goes is cause told = subst Ends (sym told.0) (inr (x, told.1))
+  session_ends x doors_rose served.DoorFault s goes is cause told = subst Ends (sym told.0) (x, is, told.1)
+  session_ends x doors_rose served.NoThread s goes is cause told = subst Ends (sym told.0) (x, is, told.1)
+  session_ends x doors_rose (served.HistoryFull n) s goes is cause (inl told) = subst Ends (sym told.0) (n, x, cause, goes (Some n) cause, told.1)
+  session_ends x doors_rose (served.HistoryFull n) s goes is cause (inr told) = subst Ends (sym told.0) (inr (x, told.1))
+  session_ends x doors_rose (served.Damaged n f p) s goes is cause (inl told) = subst Ends (sym told.0) (n, f, p, cause, (x, is, told.1))
+  session_ends x doors_rose (served.Damaged n f p) s goes is cause (inr told) = subst Ends (sym told.0) (inr (x, told.1))
 
   -- ---- a head that is read, and its run
 
@@ -108,7 +113,7 @@ module _ (W G K : Type 0) {R D L C S T : Type 0} (k : Kinds R D L C S T) (clock 
       caused W G K k h.host (setting_of script) desk doors_rose counted old new h.run h.run.end h.closed h.read_fault h.write_fault h.store_fault h.door_fault h.no_thread h.full h.damaged
 
   ends_by : (script : Script) (desk : Desk S T) (doors_rose : Type 0) (s : Status) → HeadIsRead script desk → ServedBy (setting_of script) script desk doors_rose s → Ends s
-  ends_by script desk doors_rose s read h = session_ends (session_of script desk doors_rose s read h) doors_rose h.run.end s refl (cause_of script desk doors_rose s h) h.told
+  ends_by script desk doors_rose s read h = session_ends (session_of script desk doors_rose s read h) doors_rose h.run.end s h.goes_on refl (cause_of script desk doors_rose s h) h.told
 
   same_setting : (setting : Setting) (script : Script) (desk : Desk S T) (doors_rose : Type 0) (s : Status) → setting ≡ setting_of script → ServedBy setting script desk doors_rose s → ServedBy (setting_of script) script desk doors_rose s
   same_setting setting script desk doors_rose s same h = subst (λ (z : Setting). ServedBy z script desk doors_rose s) same h

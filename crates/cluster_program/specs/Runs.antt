@@ -15,7 +15,7 @@ use Rattle.script_program.specs.declared.program.Refusal.TheVariants as refused
 use Rattle.script_program.specs.declared.program.Status.{Status}
 use Rattle.script_program.specs.declared.program.Status.TheVariants as told
 use Rattle.cluster_program.specs.Endings.{read_fault_line, no_memory_line, TellsEnd}
-use Rattle.cluster_program.specs.Serving.{Kinds}
+use Rattle.cluster_program.specs.Serving.{Kinds, GoesOnARun}
 
 module _ (W G K : Type 0) {R D L C S T : Type 0} (k : Kinds R D L C S T) where
   -- The run was served from the desk by the clock, ended for its cause, and was told with this status.
@@ -33,6 +33,7 @@ module _ (W G K : Type 0) {R D L C S T : Type 0} (k : Kinds R D L C S T) where
     pub damaged : (n f p : ℕ) → run.end ≡ served.Damaged n f p → k.replica.is_honest → k.is_damaged (old.holds n) f p
     pub closed : run.end ≡ served.Closed → IsServed K k.replica k.door k.gives k.streams host desk counted setting old new run None
     pub full : (n : ℕ) → run.end ≡ served.HistoryFull n → IsServed K k.replica k.door k.gives k.streams host desk counted setting old new run (Some n)
+    pub goes_on : (at : Option ℕ) (h : IsServed K k.replica k.door k.gives k.streams host desk counted setting old new run at) → GoesOnARun W G K k host desk counted setting old new run at h
     pub source_is : source' ≡ run.source
     pub told : TellsEnd run.end (k.streams.contents run.sink) (k.streams.contents sink') (k.streams.sink_faults run.sink) (k.streams.sink_faults sink') status
     pub later : k.streams.sink_faults run.sink ≤ k.streams.sink_faults sink'

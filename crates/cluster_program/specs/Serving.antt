@@ -5,6 +5,11 @@ use Rattle.fault_script.specs.Script.{IsRead}
 use Rattle.fault_script.specs.declared.script.Script.{Script}
 use Rattle.fault_script.specs.declared.script.ScriptError.{ScriptError}
 use Rattle.source_lines.specs.Heads.{head_of}
+use Rattle.peer_messages.specs.declared.setting.Setting.{Setting}
+use Rattle.cluster_runs.specs.World.{World, start}
+use Rattle.cluster_runs.specs.Run.{Run}
+use Rattle.lawful_orders.specs.Merged.{IsMerged}
+use Rattle.lawful_orders.specs.Orders.{Placed, IsOrderOf, RunsThrough}
 use Rattle.served_stores.specs.Shown.{Shown}
 use Rattle.served_run.specs.declared.desk.Desk.{Desk}
 use Rattle.served_run.specs.declared.host.Host.{Host}
@@ -13,6 +18,9 @@ use Rattle.served_cluster.specs.Served.{IsServed, StreamsAreBack}
 use Rattle.served_cluster.specs.declared.ending.ServedEnd.{ServedEnd}
 use Rattle.served_cluster.specs.declared.ending.ServedEnd.TheVariants as served
 use Rattle.served_cluster.specs.declared.ending.ServedRun.{ServedRun}
+use Rattle.served_theorem.specs.Left.{AreFormatted, HoldWhatIsLeft, histories_of, states_of}
+use Rattle.served_theorem.specs.Runs.{IsServedRun}
+use Rattle.served_theorem.specs.Visits.{TellsAll, visits_served}
 use Rattle.script_program.specs.Endings.{LeavesLine, error_line}
 use Rattle.script_program.specs.Requests.{setting_of}
 use Rattle.script_program.specs.Streams.{WritesAll, WritesFront}
@@ -33,6 +41,19 @@ abbrev pub kinds : {R D L C S T : Type 0} → ReplicaKind R → ((ℕ → List �
 kinds replica is_damaged door gives streams = record { replica = replica; is_damaged = is_damaged; door = door; gives = gives; streams = streams }
 
 module _ (W G K : Type 0) {R D L C S T : Type 0} (k : Kinds R D L C S T) where
+  -- What the nodes of a served run did is a run of the cluster, where disks are honest: behind each run that left what their stores held,
+  -- and from the first on where these were just formatted. Along each order in which their steps may have come, the chronicle enters what
+  -- the clients were told.
+  pub record GoesOnARun (host : Host W C G) (desk : Desk S T) (counted : Type 0) (setting : Setting) (old new : Shown) (run : ServedRun S T) (full : Option ℕ)
+      (h : IsServed K k.replica k.door k.gives k.streams host desk counted setting old new run full) : Type 0 where
+    pub goes_on : k.replica.is_honest → (earlier : World) → Run setting earlier → HoldWhatIsLeft k.replica.stands_for earlier.standing old.holds
+        → IsServedRun k.replica.stands_for setting earlier old.holds (histories_of h.served.served.left) (states_of k.replica.durable h.served.served.left) new.holds
+    pub begins : k.replica.is_honest → AreFormatted (length setting.ring) old.holds
+        → IsServedRun k.replica.stands_for setting (start setting) old.holds (histories_of h.served.served.left) (states_of k.replica.durable h.served.served.left) new.holds
+    pub tells : (begun last : World) (order : List Placed)
+        → IsOrderOf (histories_of h.served.served.left) order ⊎ IsMerged (histories_of h.served.served.left) order → RunsThrough setting begun order last
+        → TellsAll begun last (visits_served k.replica k.door k.gives k.streams host desk counted h.served.served)
+
   -- Served runs whose nodes listen from this port on, whose streams were these, and whose source is then this.
   -- The head of what the source had left is a script. Behind the head the run began, with the script's schema and by the clock: its console
   -- wrote to the sink, first of all where each node listens.
@@ -67,9 +88,14 @@ module _ (W G K : Type 0) {R D L C S T : Type 0} (k : Kinds R D L C S T) where
     abbrev pub HasServed : Session clock port source sink source' → Option ℕ → Type 0
     HasServed x full = IsServed K k.replica k.door k.gives k.streams x.host x.desk counted (setting_of x.script) old new x.run full
 
+    abbrev pub IsARun : (x : Session clock port source sink source') (full : Option ℕ) → HasServed x full → Type 0
+    IsARun x full h = GoesOnARun x.host x.desk counted (setting_of x.script) old new x.run full h
+
     -- all went well, and `closed` is written last
     abbrev pub IsClosed : Type 0
-    IsClosed = (x : Session clock port source sink source') × HasServed x None × WritesAll (k.streams.contents x.run.sink) (k.streams.contents sink') closed_line
+    IsClosed =
+        (x : Session clock port source sink source') × (h : HasServed x None) × IsARun x None h
+        × WritesAll (k.streams.contents x.run.sink) (k.streams.contents sink') closed_line
 
     -- the head is no script, which is told
     pub record RefusesHead : Type 0 where
@@ -88,7 +114,7 @@ module _ (W G K : Type 0) {R D L C S T : Type 0} (k : Kinds R D L C S T) where
     HasStoreFault = (n : ℕ) × HasRisen (old.faults n) (new.faults n) × TellsBehind (served.StoreFault n) (store_fault_line n)
 
     abbrev pub IsFull : Type 0
-    IsFull = (n : ℕ) × (x : Session clock port source sink source') × HasServed x (Some n) × TellsIn x (history_full_line n)
+    IsFull = (n : ℕ) × (x : Session clock port source sink source') × (h : HasServed x (Some n)) × IsARun x (Some n) h × TellsIn x (history_full_line n)
 
     -- the file of the node broke its format at that place, where the disk is honest
     abbrev pub IsDamaged : Type 0

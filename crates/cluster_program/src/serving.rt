@@ -26,6 +26,7 @@ use replica::Replica;
 use script_program::{Refusal, Status, leave_refusal};
 use served_cluster::{Place, ServedRun, serve};
 use served_run::{Desk, Host};
+use served_theorem::{formatted_stores_are_left, served_answers_are_entered, served_runs_are_runs};
 use std::alloc::Global;
 use std::sync::Wait;
 use std::sync::atomic::AtomicBool;
@@ -85,6 +86,9 @@ where
         gate,
         schema: &script.schema,
     };
+    served_runs_are_runs::<R, W, G, L::Door, C, S, T>();
+    served_answers_are_entered::<R, W, G, L::Door, C, S, T>();
+    formatted_stores_are_left::<R>();
     told(
         alloc,
         serve::<R, W, D, L, C, P, G, S, T>(&host, place, setting, stores, doors, spawner, desk),

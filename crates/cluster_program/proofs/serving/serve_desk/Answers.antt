@@ -16,6 +16,13 @@ returns g c = record {
   damaged = c.serve.ensures.damaged;
   closed = c.serve.ensures.closed;
   full = c.serve.ensures.full;
+  goes_on = λ full h. record {
+    goes_on = λ honest earlier run held. c.served_runs_are_runs.ensures _ _ _ _ _ _ _ _ full earlier h honest run held;
+    begins = λ honest formatted.
+        let left = c.formatted_stores_are_left.ensures _ _ formatted in
+        c.served_runs_are_runs.ensures _ _ _ _ _ _ _ _ full _ h honest left.0 left.1;
+    tells = λ begun last order is through. c.served_answers_are_entered.ensures _ _ _ _ _ _ _ _ full begun last order h is through;
+  };
   source_is = c.told.ensures.source;
   told = c.told.ensures.told;
   later = c.told.ensures.later;
