@@ -1,13 +1,13 @@
 //! How served runs end, and what they tell.
 
 use crate::clients::{AT_ONE, READY, two_writers};
-use crate::holding::UntilAnswered;
+use crate::holding::{UntilAnswered, counting_gate};
 use crate::running::{Failing, NOTHING, OPENING, TWO_NODES, serve};
 use cluster_program::Status;
 use cs_base::NodeId;
-use cs_io::{HoldGate, MemSource, OpenGate, Passage, Point};
+use cs_io::{MemSource, OpenGate};
 use cs_runtime::SysClock;
-use cs_store::{FileNo, MemStore, MemStores, Store, Stores};
+use cs_store::{FileNo, MemStores, Store, Stores};
 use std::alloc::{AllocError, Global};
 use std::collections::VecDeque;
 use std::test::Fail;
@@ -21,15 +21,6 @@ fn lines(alloc: Global, texts: &[&str], failing: &[u64]) -> Result<MemSource, Al
         bytes.extend_from_slice(text.as_bytes())?;
     }
     Ok(MemSource::new(bytes, 64, Vec::from_slice(alloc, failing)?))
-}
-
-// Stores, of which that of a node has this done to it before the run.
-fn stores_where(alloc: Global, node: NodeId, change: fn(&mut MemStore)) -> Result<MemStores, Fail> {
-    let mut stores = MemStores::formatted(alloc)?;
-    let mut store = stores.take("", node)?;
-    change(&mut store);
-    stores.back(node, store);
-    Ok(stores)
 }
 
 // The console's lines are answered one after another, and those behind `stop` are not read.
@@ -161,9 +152,10 @@ fn faults_are_told(rt: HostRuntime) -> Result<(), Fail> {
 #[test]
 fn a_damaged_log_is_told(rt: HostRuntime) -> Result<(), Fail> {
     let alloc = rt.alloc();
-    let mut stores = stores_where(alloc, NodeId::FIRST, |store| {
-        let _ = store.cut(FileNo::new(0).unwrap(), 0);
-    })?;
+    let mut stores = MemStores::formatted(alloc)?;
+    let mut store = stores.take("", NodeId::FIRST)?;
+    store.cut(FileNo::new(0).ok_or("a file")?, 0)?;
+    stores.back(NodeId::FIRST, store);
     let source = lines(alloc, &[TWO_NODES], &[])?;
     let left = serve(
         &rt,
@@ -184,14 +176,12 @@ fn a_damaged_log_is_told(rt: HostRuntime) -> Result<(), Fail> {
 fn a_failed_store_is_told(rt: HostRuntime) -> Result<(), Fail> {
     let alloc = rt.alloc();
     let nodes = [NodeId::FIRST, NodeId::new(1).ok_or("a node")?];
-    let never = Passage {
-        node: nodes[0],
-        point: Point::Taken,
-        number: 1_000,
-    };
-    let gate = HoldGate::new(never, never, 1_000_000);
+    let gate = counting_gate(nodes[0], 1_000_000);
     let source = UntilAnswered::new(TWO_NODES, &gate, nodes);
-    let mut stores = stores_where(alloc, nodes[1], |store| store.fail_at(CALLS_OF_A_LOAD + 1))?;
+    let mut stores = MemStores::formatted(alloc)?;
+    let mut store = stores.take("", nodes[1])?;
+    store.fail_at(CALLS_OF_A_LOAD + 1);
+    stores.back(nodes[1], store);
     let plans = two_writers(alloc, AT_ONE)?;
     let left = serve(
         &rt,

@@ -10,7 +10,39 @@ use cs_store::MemStores;
 use std::test::Fail;
 use std::thread;
 
-/// Gives a text piece by piece, and its end once both nodes have answered their second request, or behind so many turns.
+/// A request of a node as the one that comes to the point so late.
+fn passage(node: NodeId, point: Point, number: u64) -> Passage {
+    Passage {
+        node,
+        point,
+        number,
+    }
+}
+
+/// A gate that counts requests and holds none that comes here.
+pub(crate) fn counting_gate(node: NodeId, turns: u64) -> HoldGate {
+    let never = passage(node, Point::Taken, 1_000);
+    HoldGate::new(never, passage(node, Point::Answered, 1_000), turns)
+}
+
+/// Whether both nodes have answered their second request.
+fn are_answered(gate: &HoldGate, nodes: &[NodeId; 2]) -> bool {
+    nodes
+        .iter()
+        .all(|node| gate.count(*node, Point::Answered) >= 2)
+}
+
+/// Waits for that, no longer than so many turns.
+fn wait_for_answers(gate: &HoldGate, nodes: &[NodeId; 2]) {
+    for _ in 0..gate.turns {
+        if are_answered(gate, nodes) {
+            return;
+        }
+        thread::yield_now();
+    }
+}
+
+/// Gives a text piece by piece, and its end once both nodes have answered their second request, or behind so many turns of the gate.
 #[derive(Drop)]
 pub(crate) struct UntilAnswered<'a> {
     text: &'a [u8],
@@ -24,21 +56,6 @@ impl<'a> UntilAnswered<'a> {
             text: text.as_bytes(),
             gate,
             nodes,
-        }
-    }
-
-    fn is_answered(&self) -> bool {
-        self.nodes
-            .iter()
-            .all(|node| self.gate.count(*node, Point::Answered) >= 2)
-    }
-
-    fn wait(&self) {
-        for _ in 0..self.gate.turns {
-            if self.is_answered() {
-                return;
-            }
-            thread::yield_now();
         }
     }
 }
@@ -56,7 +73,7 @@ impl Source for UntilAnswered<'_> {
         buffer[..count].copy_from_slice(now);
         self.text = later;
         if count == 0 {
-            self.wait();
+            wait_for_answers(self.gate, &self.nodes);
         }
         Ok(count)
     }
@@ -68,16 +85,8 @@ impl Source for UntilAnswered<'_> {
 fn a_held_request_holds_no_other_one(rt: HostRuntime) -> Result<(), Fail> {
     let alloc = rt.alloc();
     let nodes = [NodeId::FIRST, NodeId::new(1).ok_or("a node")?];
-    let held = Passage {
-        node: nodes[0],
-        point: Point::Taken,
-        number: 2,
-    };
-    let until = Passage {
-        node: nodes[1],
-        point: Point::Answered,
-        number: 2,
-    };
+    let held = passage(nodes[0], Point::Taken, 2);
+    let until = passage(nodes[1], Point::Answered, 2);
     let gate = HoldGate::new(held, until, 1_000_000);
     let source = UntilAnswered::new(TWO_NODES, &gate, nodes);
     let mut stores = MemStores::formatted(alloc)?;

@@ -1,11 +1,10 @@
 //! Two nodes write to their stores at once.
 
 use crate::clients::{AT_ONE, READY_AND_VOID, two_writers};
-use crate::holding::UntilAnswered;
+use crate::holding::{UntilAnswered, counting_gate};
 use crate::running::{NOTHING, OPENING, TWO_NODES, serve};
 use cluster_program::Status;
 use cs_base::{Failed, NodeId};
-use cs_io::{HoldGate, Passage, Point};
 use cs_runtime::SysClock;
 use cs_store::{FileNo, MemStore, MemStores, Store, Stores, TakeError};
 use std::alloc::AllocError;
@@ -15,29 +14,50 @@ use std::test::Fail;
 // How often a store looks whether the other one is called.
 const LOOKS: u64 = 1_000_000_000;
 
-/// Of each of two nodes, whether its store was asked to write, and whether that call saw the other one.
+/// Whether the store of a node was asked to write, and whether that call saw the other node's.
 #[derive(Drop)]
-struct Meeting {
-    came: [AtomicBool; 2],
-    met: [AtomicBool; 2],
+struct Side {
+    came: AtomicBool,
+    met: AtomicBool,
 }
 
-impl Meeting {
-    fn new() -> Meeting {
-        Meeting {
-            came: [AtomicBool::new(false), AtomicBool::new(false)],
-            met: [AtomicBool::new(false), AtomicBool::new(false)],
+impl Side {
+    fn new() -> Side {
+        Side {
+            came: AtomicBool::new(false),
+            met: AtomicBool::new(false),
         }
     }
 
-    fn come(&self, node: usize) {
-        let other = &self.came[1 - node];
-        self.came[node].store(true, Ordering::SeqCst);
-        for _ in 0..LOOKS {
-            if other.load(Ordering::SeqCst) {
-                self.met[node].store(true, Ordering::SeqCst);
-                return;
-            }
+    fn has_met(&self) -> bool {
+        self.met.load(Ordering::SeqCst)
+    }
+}
+
+/// Comes to the store of one side, and looks for the other one.
+fn come(side: &Side, other: &Side) {
+    side.came.store(true, Ordering::SeqCst);
+    for _ in 0..LOOKS {
+        if other.came.load(Ordering::SeqCst) {
+            side.met.store(true, Ordering::SeqCst);
+            return;
+        }
+    }
+}
+
+/// The two nodes.
+#[derive(Drop)]
+struct Meeting {
+    first: Side,
+    second: Side,
+}
+
+impl Meeting {
+    fn come(&self, is_first: bool) {
+        if is_first {
+            come(&self.first, &self.second);
+        } else {
+            come(&self.second, &self.first);
         }
     }
 }
@@ -46,10 +66,9 @@ impl Meeting {
 #[derive(Drop)]
 struct MeetingStore<'a> {
     store: MemStore,
-    node: usize,
+    is_first: bool,
     meeting: &'a Meeting,
     has_written: bool,
-    ghost of_two: { node < 2 },
 }
 
 impl Store for MeetingStore<'_> {
@@ -86,7 +105,7 @@ impl Store for MeetingStore<'_> {
     fn write_at(&mut self, f: FileNo, at: u64, bytes: &[u8]) -> Result<(), Failed> {
         if !self.has_written {
             self.has_written = true;
-            self.meeting.come(self.node);
+            self.meeting.come(self.is_first);
         }
         self.store.write_at(f, at, bytes)
     }
@@ -126,7 +145,7 @@ impl<'a> Stores for MeetingStores<'a> {
         let store = self.stores.take(dir, node)?;
         Ok(MeetingStore {
             store,
-            node: usize::from(node.number()) % 2,
+            is_first: node == NodeId::FIRST,
             meeting: self.meeting,
             has_written: false,
         })
@@ -142,15 +161,12 @@ impl<'a> Stores for MeetingStores<'a> {
 fn two_nodes_write_at_once(rt: HostRuntime) -> Result<(), Fail> {
     let alloc = rt.alloc();
     let nodes = [NodeId::FIRST, NodeId::new(1).ok_or("a node")?];
-    // nobody comes so often, so nothing is held
-    let never = Passage {
-        node: nodes[0],
-        point: Point::Taken,
-        number: 1_000,
-    };
-    let gate = HoldGate::new(never, never, LOOKS);
+    let gate = counting_gate(nodes[0], LOOKS);
     let source = UntilAnswered::new(TWO_NODES, &gate, nodes);
-    let meeting = Meeting::new();
+    let meeting = Meeting {
+        first: Side::new(),
+        second: Side::new(),
+    };
     let mut stores = MeetingStores {
         stores: MemStores::formatted(alloc)?,
         meeting: &meeting,
@@ -169,7 +185,7 @@ fn two_nodes_write_at_once(rt: HostRuntime) -> Result<(), Fail> {
     assert!(rt; left.is(Status::Ok, &[OPENING, "closed\n"]));
     for node in [0, 1] {
         assert_eq!(rt; left.sent_at(node), Some(READY_AND_VOID));
-        assert!(rt; meeting.met[usize::from(node)].load(Ordering::SeqCst));
     }
+    assert!(rt; meeting.first.has_met() && meeting.second.has_met());
     Ok(())
 }

@@ -1,11 +1,10 @@
 //! A request whose time is over.
 
 use crate::clients::{AT_ALL, READY, two_writers};
-use crate::holding::UntilAnswered;
+use crate::holding::{UntilAnswered, counting_gate};
 use crate::running::{NOTHING, OPENING, TWO_NODES, serve};
 use cluster_program::Status;
 use cs_base::{Micros, NodeId};
-use cs_io::{HoldGate, Passage, Point};
 use cs_runtime::Clock;
 use cs_store::MemStores;
 use std::sync::atomic::{AtomicU64, Ordering};
@@ -50,12 +49,7 @@ fn is_timed_out(sent: Option<&[u8]>) -> bool {
 fn a_write_that_waits_too_long_is_told_so(rt: HostRuntime) -> Result<(), Fail> {
     let alloc = rt.alloc();
     let nodes = [NodeId::FIRST, NodeId::new(1).ok_or("a node")?];
-    let never = Passage {
-        node: nodes[0],
-        point: Point::Taken,
-        number: 1_000,
-    };
-    let gate = HoldGate::new(never, never, 10_000_000);
+    let gate = counting_gate(nodes[0], 10_000_000);
     let source = UntilAnswered::new(TWO_NODES, &gate, nodes);
     let clock = HastyClock {
         readings: AtomicU64::new(0),
