@@ -36,22 +36,37 @@ fn writer(alloc: Global, level: &[u8]) -> Result<MemLink, AllocError> {
     Ok(MemLink::new(alloc, pieces, 1_000_000, Vec::new(alloc)))
 }
 
-// The doors of a node: such a client comes to the first, and nobody to the others.
-fn doors_of(alloc: Global, level: &[u8], plans: &mut VecDeque<DoorPlan>) -> Result<(), AllocError> {
-    for at in 0..DOORS {
-        let mut coming = VecDeque::new(alloc);
-        if at == 0 {
-            coming.push_back(Some(writer(alloc, level)?))?;
-        }
-        plans.push_back(DoorPlan::new(coming, Vec::new(alloc)))?;
+// The doors of a node: these clients come to the first, and nobody to the others.
+fn doors_of(
+    alloc: Global,
+    coming: VecDeque<Option<MemLink>>,
+    plans: &mut VecDeque<DoorPlan>,
+) -> Result<(), AllocError> {
+    plans.push_back(DoorPlan::new(coming, Vec::new(alloc)))?;
+    for _ in 1..DOORS {
+        plans.push_back(DoorPlan::new(VecDeque::new(alloc), Vec::new(alloc)))?;
     }
     Ok(())
+}
+
+fn one_writer(alloc: Global, level: &[u8]) -> Result<VecDeque<Option<MemLink>>, AllocError> {
+    let mut coming = VecDeque::new(alloc);
+    coming.push_back(Some(writer(alloc, level)?))?;
+    Ok(coming)
 }
 
 /// The doors of two nodes, with a client of each that makes one write at this level.
 pub(crate) fn two_writers(alloc: Global, level: &[u8]) -> Result<VecDeque<DoorPlan>, AllocError> {
     let mut plans = VecDeque::new(alloc);
-    doors_of(alloc, level, &mut plans)?;
-    doors_of(alloc, level, &mut plans)?;
+    doors_of(alloc, one_writer(alloc, level)?, &mut plans)?;
+    doors_of(alloc, one_writer(alloc, level)?, &mut plans)?;
+    Ok(plans)
+}
+
+/// The same, with a client of the second node alone.
+pub(crate) fn second_writer(alloc: Global, level: &[u8]) -> Result<VecDeque<DoorPlan>, AllocError> {
+    let mut plans = VecDeque::new(alloc);
+    doors_of(alloc, VecDeque::new(alloc), &mut plans)?;
+    doors_of(alloc, one_writer(alloc, level)?, &mut plans)?;
     Ok(plans)
 }

@@ -1,6 +1,6 @@
 //! How served runs end, and what they tell.
 
-use crate::clients::{AT_ONE, READY, two_writers};
+use crate::clients::{AT_ONE, READY, second_writer};
 use crate::running::{Failing, NOTHING, OPENING, TWO_NODES, serve};
 use cluster_program::Status;
 use cs_base::{Failed, NodeId};
@@ -199,7 +199,8 @@ impl Source for Endless<'_> {
     }
 }
 
-// A node whose store fails answers nobody any more, and ends the run, though the console has further lines.
+// A node whose store fails answers nobody any more, and ends the run, though the console has further lines. The run may end before the
+// console has begun, and then nothing is written before.
 #[test]
 fn a_failed_store_is_told(rt: HostRuntime) -> Result<(), Fail> {
     let alloc = rt.alloc();
@@ -212,7 +213,7 @@ fn a_failed_store_is_told(rt: HostRuntime) -> Result<(), Fail> {
     let mut store = stores.take("", node)?;
     store.fail_at(CALLS_OF_A_LOAD + 1);
     stores.back(node, store);
-    let plans = two_writers(alloc, AT_ONE)?;
+    let plans = second_writer(alloc, AT_ONE)?;
     let left = serve(
         &rt,
         alloc,
@@ -224,7 +225,7 @@ fn a_failed_store_is_told(rt: HostRuntime) -> Result<(), Fail> {
         NOTHING,
     )?;
     assert_eq!(rt; left.status, Status::StoreFault);
-    assert!(rt; left.text.ends_with(b"\nstore fault 1\n"));
+    assert!(rt; left.text.ends_with(b"store fault 1\n"));
     assert_eq!(rt; left.sent_at(1), Some(READY));
     Ok(())
 }
