@@ -6,6 +6,7 @@ use crate::{Bound, Held, Helds, Mutation, Partition, Place, Query};
 use cs_base::{Bytes, Items};
 use std::alloc::{AllocError, Global};
 
+#[inline(always)]
 pub(crate) fn copy_value(alloc: Global, value: &Option<Bytes>) -> Result<Option<Bytes>, AllocError>
     ensures { IfOk result (λ copy. copy ≡ value.now) }
 {
@@ -48,7 +49,16 @@ impl Bound {
     }
 }
 
+/// Few places are of ranges: kept out of the callers of `Place::copy`.
+#[inline(never)]
+fn copy_range(alloc: Global, from: &Bound, upto: &Bound) -> Result<Place, AllocError>
+    ensures { IfOk result (λ copy. copy ≡ Place.RangeGone from.now upto.now) }
+{
+    Ok(Place::RangeGone(from.copy(alloc)?, upto.copy(alloc)?))
+}
+
 impl Place {
+    #[inline(always)]
     pub fn copy(&self, alloc: Global) -> Result<Place, AllocError>
         ensures { IfOk result (λ copy. copy ≡ self.now) }
     {
@@ -56,9 +66,7 @@ impl Place {
             Place::Cell(row, column) => Ok(Place::Cell(row.copy(alloc)?, *column)),
             Place::Marker(row) => Ok(Place::Marker(row.copy(alloc)?)),
             Place::RowGone(row) => Ok(Place::RowGone(row.copy(alloc)?)),
-            Place::RangeGone(from, upto) => {
-                Ok(Place::RangeGone(from.copy(alloc)?, upto.copy(alloc)?))
-            }
+            Place::RangeGone(from, upto) => copy_range(alloc, from, upto),
             Place::PartGone => Ok(Place::PartGone),
         }
     }

@@ -165,17 +165,28 @@ impl Bytes {
     }
 
     /// An equal string.
+    #[inline(always)]
     pub fn copy(&self, alloc: Global) -> Result<Bytes, AllocError>
         ensures { IfOk result (λ copy. copy ≡ self.now) }
     {
-        match &self.kept {
-            Kept::Inline(short) => Ok(Bytes {
+        if let Kept::Inline(short) = &self.kept {
+            return Ok(Bytes {
                 kept: Kept::Inline(*short),
-            }),
+            });
+        }
+        self.copy_apart(alloc)
+    }
+
+    /// An equal string: kept out of the callers of `copy`, most of whose strings are short.
+    #[inline(never)]
+    fn copy_apart(&self, alloc: Global) -> Result<Bytes, AllocError>
+        ensures { IfOk result (λ copy. copy ≡ self.now) }
+    {
+        match &self.kept {
             Kept::Shared(bytes) => Ok(Bytes {
                 kept: Kept::Shared(Arc::try_clone(bytes)?),
             }),
-            Kept::Owned(bytes) => Bytes::from_slice(alloc, bytes.as_slice()),
+            kept => Bytes::from_slice(alloc, kept.as_slice()),
         }
     }
 }
