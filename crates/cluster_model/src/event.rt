@@ -21,6 +21,8 @@ pub enum ClusterEvent {
     Settle(u32),
     /// The node's clock is set, in microseconds, also of one that is down, and the node takes the time.
     Clock(NodeId, Micros),
+    /// The node's clock shows this, in microseconds, at what comes next: nothing else happens.
+    Reading(NodeId, Micros),
     /// The first node takes the second one for alive, or else for dead.
     Alive(NodeId, NodeId, bool),
     /// The answer of a request is asked for, which is nothing of the node itself: it takes the time.

@@ -305,6 +305,10 @@ impl<R: MemReplica> Parts<R> {
             ClusterEvent::Lose(from, upto, number) => self.lose(from, upto, number),
             ClusterEvent::Settle(count) => self.settle(alloc, count),
             ClusterEvent::Clock(node, micros) => self.tick(alloc, node, micros),
+            ClusterEvent::Reading(node, micros) => {
+                self.put_clock(node, micros);
+                Ok(())
+            }
             ClusterEvent::Alive(node, peer, up) => self.take(alloc, node, What::Alive(peer, up)),
             ClusterEvent::Collect(node, request) => self.take(alloc, node, What::Collect(request)),
             ClusterEvent::Crash(node, outcome) => {

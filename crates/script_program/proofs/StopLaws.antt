@@ -123,6 +123,7 @@ Spares k (event.Deliver from upto n) = Unit {0}
 Spares k (event.Lose from upto n) = Unit {0}
 Spares k (event.Settle n) = Unit {0}
 Spares k (event.Clock j micros) = Unit {0}
+Spares k (event.Reading j micros) = Unit {0}
 Spares k (event.Alive j peer up) = Unit {0}
 Spares k (event.Crash j outcome) = j ≢ k
 Spares k (event.StopAt j call outcome) = j ≢ k
@@ -143,6 +144,7 @@ takes (event.Lose from upto n) v v' k spares well h =
 takes (event.Settle n) v v' k spares well h = settles n v v' k well h
 takes (event.Clock j micros) v v' k spares well h =
     comes (changed (set_clock micros) v j) v' j Tick k (changed_well (set_clock micros) v (changed (set_clock micros) v j) j k (λ same s w. record { untold = w.untold; up = w.up }) well refl) h
+takes (event.Reading j micros) v v' k spares well h = changed_well (set_clock micros) v v' j k (λ same s w. record { untold = w.untold; up = w.up }) well h
 takes (event.Alive j peer up) v v' k spares well h = comes v v' j (Alive peer up) k well h
 takes (event.Crash j outcome) v v' k spares well h = apart_well stopped v v' j k spares well h
 takes (event.StopAt j call outcome) v v' k spares well h = apart_well (told_of call (Stop call outcome)) v v' j k spares well h
