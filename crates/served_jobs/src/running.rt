@@ -36,7 +36,6 @@ pub fn run_jobs<
 where
     N::Entry: Send,
     D::Link: Send,
-    D::Link: Send,
     ensures counted { S.faults spawner.old ≤ S.faults spawner.new }
     ensures err { OnErr result ((S.faults spawner.new ≡ S.faults spawner.old) × (S.starts spawner.new ≡ S.starts spawner.old)) }
     ensures back { IfErr result (λ r. (r.jobs ≡ jobs.entry) × (r.here ≡ here)) }
