@@ -1,0 +1,5 @@
+use Rattle.paxos_acceptor.proofs.Refusals.{accepted_is_not_refused}
+use Rattle.paxos_acceptor.proofs.laws.accepted_is_not_refused.Goals as goal
+
+pub returns : goal.returns
+returns c = accepted_is_not_refused

@@ -1,0 +1,4 @@
+pub mod Acceptor
+pub mod Steps
+pub mod Laws
+pub mod Worked

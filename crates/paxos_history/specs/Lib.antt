@@ -1,0 +1,4 @@
+pub mod Protocol
+pub mod Serial
+pub mod Laws
+pub mod Example

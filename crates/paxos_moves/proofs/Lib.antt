@@ -1,0 +1,3 @@
+mod MoveKinds
+mod Known
+mod StoryLaws

@@ -1,0 +1,4 @@
+pub mod Maps
+pub mod ConditionalStep
+pub mod Laws
+pub mod Example
