@@ -13,8 +13,7 @@ pub fn ballots_rise()
     ensures { BallotsRise }
 {}
 
-/// An operation starts over after a proposal of its own only where every replica to which that went has refused it. Such a
-/// replica has not accepted it and never will, so that no operation is applied twice.
+/// An operation starts over after a proposal of its own only where every replica to which that went has refused it.
 pub fn retries_are_safe()
     ensures { RetriesAreSafe }
 {}
