@@ -15,11 +15,12 @@ use std::sync::Arc;
 /// The longest string that is kept in the value itself. Most keys, names of rows and values are no longer.
 const INLINE: usize = 23;
 
-/// A string of few bytes, in as much memory as a `Vec` takes.
+/// A string of few bytes, in as much memory as a `Vec` takes. Its bytes start at a multiple of eight: so they are moved in whole words.
 #[derive(Clone, Copy)]
 struct Short {
-    len: u8,
+    align: [u64; 0],
     bytes: [u8; INLINE],
+    len: u8,
 }
 
 impl Short {
@@ -34,8 +35,9 @@ impl Short {
         let mut kept = [0; INLINE];
         kept[..len].copy_from_slice(bytes);
         Some(Short {
-            len: len as u8,
+            align: [],
             bytes: kept,
+            len: len as u8,
         })
     }
 
@@ -114,8 +116,9 @@ impl Bytes {
     {
         Bytes {
             kept: Kept::Inline(Short {
-                len: 0,
+                align: [],
                 bytes: [0; INLINE],
+                len: 0,
             }),
         }
     }

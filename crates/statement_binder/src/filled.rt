@@ -1,6 +1,6 @@
 //! The slots of a statement with their values.
 
-ghost use Rattle.std.specs.Prelude.{◌≡◌, ◌≢◌, ◌≤◌, if◌then◌else◌, None, Some, IfOk, OnOk, length, option_copied};
+ghost use Rattle.std.specs.Prelude.{◌≡◌, ◌≢◌, ◌≤◌, if◌then◌else◌, None, Some, IfOk, OnOk, insert, length, option_copied};
 ghost use Rattle.std.specs.Result.{result_ok};
 ghost use Rattle.cql_values.specs.Protocol.{decoded as decoded_of};
 ghost use Rattle.cql_values.specs.declared.value.CqlType.TheVariants as types;
@@ -193,6 +193,26 @@ fn place_for(cells: &[CellValue], column: u8) -> usize
     cells.len()
 }
 
+/// Most cells come in the order of their columns, and go to the end.
+fn insert_cell(
+    alloc: Global,
+    cells: &mut Items<CellValue>,
+    place: usize,
+    cell: CellValue,
+) -> Result<(), AllocError>
+    requires { place ≤ length cells.old }
+    ensures { OnOk result (cells.new ≡ insert cells.old place cell) }
+{
+    if place == cells.as_slice().len() {
+        cells.push(cell)?;
+    } else {
+        let mut others = mem::replace(cells, Items::new(alloc)).into_vec();
+        others.insert(place, cell)?;
+        *cells = Items::from_vec(others);
+    }
+    Ok(())
+}
+
 fn compare_of(operator: TestOperator) -> Compare
     ensures { result ≡ compare_of_operator operator }
 {
@@ -257,9 +277,7 @@ impl Filled {
         if let Some(value) = value {
             let column = column_number(column);
             let place = place_for(self.cells.as_slice(), column);
-            let mut cells = mem::replace(&mut self.cells, Items::new(alloc)).into_vec();
-            cells.insert(place, CellValue { column, value })?;
-            self.cells = Items::from_vec(cells);
+            insert_cell(alloc, &mut self.cells, place, CellValue { column, value })?;
         }
         Ok(())
     }
@@ -374,5 +392,6 @@ pub(crate) fn fill_slots(
     ensures left { OnOk result (left_in supplier.new ≡ left_after (left_in supplier.old) slots.now) }
 {
     let mut filled = Filled::new(alloc);
-    add_slots(&mut filled, alloc, slots, supplier).and(Ok(filled))
+    add_slots(&mut filled, alloc, slots, supplier)?;
+    Ok(filled)
 }
