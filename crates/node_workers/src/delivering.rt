@@ -8,7 +8,7 @@ ghost use Rattle.node_workers.specs.Deliveries.{DeliversOne, Delivers};
 
 use crate::ended::{Ended, go_on, into_ended};
 use crate::receivers::Receivers;
-use crate::site::{PAUSE, Site};
+use crate::site::{SHORTEST, Site, longer};
 use cs_runtime::Clock;
 use node_calls::{NodeCall, NodeReply};
 use node_lock::{NodeLock, Pass, Stepper};
@@ -83,15 +83,17 @@ fn deliver_all<W: Wait, N: Stepper<Event = NodeCall, Reply = NodeReply>, C: Cloc
     ensures lock { IsPassOf site.now.lock.now pass.new }
     ensures delivers { Delivers N.steps N.event_of N.reply_of N.refuses (start_of site.now.lock.now) (C.gives site.now.clock.now) receivers.old (view_of pass.old) receivers.new (view_of pass.new) result }
 {
+    let mut rest = SHORTEST;
     for _ in site.rt.forever() {
         match take_round(site, pass, receivers) {
             Err(ended) => return ended,
-            Ok(true) => {}
+            Ok(true) => rest = SHORTEST,
             Ok(false) => {
                 if site.is_stopping() {
                     return Ended::well();
                 }
-                site.clock.rest(PAUSE);
+                site.clock.rest(rest);
+                rest = longer(rest);
             }
         }
     }

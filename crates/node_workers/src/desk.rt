@@ -2,7 +2,7 @@
 
 use crate::outcome::{into_answer, into_name};
 use crate::parts::DeskParts;
-use crate::site::{PAUSE, Site};
+use crate::site::{Site, next_look};
 use client_desk::{Answer, Desk};
 use cs_base::ReqId;
 use cs_runtime::Clock;
@@ -15,10 +15,10 @@ use std::snapshot::Snapshot;
 use std::sync::Wait;
 use std::sync::atomic::AtomicBool;
 
-/// Rests where there is no answer yet.
-fn rest_without<C: Clock>(clock: &C, answer: &Option<Answer>) {
+/// Rests where there is no answer yet after so many microseconds.
+fn rest_without<C: Clock>(clock: &C, answer: &Option<Answer>, waited: u64) {
     if answer.is_none() {
-        clock.rest(PAUSE);
+        clock.rest(next_look(waited));
     }
 }
 
@@ -124,9 +124,10 @@ impl<'a, W: Wait, N: Stepper<Event = NodeCall, Reply = NodeReply>, C: Clock> Des
         ensures calls { CallsOnce N.steps N.event_of N.reply_of N.refuses C.gives self.old (λ clock. optional_call_of (event_at clock (Collect request))) answered_by result self.new }
     {
         let clock = self.parts.site.clock.now();
+        let waited = clock.count().saturating_sub(request.time.count());
         let what = What::Collect(request);
         let answer = into_answer(self.parts.call(NodeCall::optional(Event { clock, what })));
-        rest_without(self.parts.site.clock, &answer);
+        rest_without(self.parts.site.clock, &answer, waited);
         answer
     }
 }

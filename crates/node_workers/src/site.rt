@@ -6,11 +6,26 @@ use node_lock::{NodeLock, Pass, Stepper};
 use std::sync::Wait;
 use std::sync::atomic::{AtomicBool, Ordering};
 
-/// How long one rests that waits for a message or an answer, in microseconds.
-pub(crate) const PAUSE: u64 = 200;
+/// How long one rests at first that waits for a message or an answer, in microseconds.
+pub(crate) const SHORTEST: u64 = 20;
+
+/// And at last.
+const LONGEST: u64 = 200;
 
 /// How long one rests between two looks at the clock, in microseconds.
 pub(crate) const TURN: u64 = 1_000;
+
+/// How long one rests who waits for a message, rested so long and found none again: a message that follows others soon is not
+/// kept waiting, and links on which nothing comes take little of the processor's time.
+pub(crate) fn longer(rest: u64) -> u64 {
+    rest.saturating_mul(2).min(LONGEST)
+}
+
+/// How long one rests who has waited so long for an answer: looks at the node grow rarer, and none comes later than it must by
+/// more than a quarter of what the answer took.
+pub(crate) fn next_look(waited: u64) -> u64 {
+    (waited / 4).max(SHORTEST).min(LONGEST)
+}
 
 /// A locked node, with the runtime and the clock of whoever steps it, and the program's stop flag.
 #[derive(Drop)]

@@ -211,8 +211,8 @@ fn a_desk_names_a_request_and_collects_its_answer(rt: HostRuntime) -> Result<(),
     let stop = AtomicBool::new(false);
     let mut desk = LockDesk::new(&rt, &lock, pass, &clock, &stop);
     let found = looks(&rt, &mut desk, ask_at(rt.alloc(), Level::One)?);
-    assert_eq!(rt; found, Some((5, 11)));
-    assert_eq!(rt; clock.now().count(), 2_005);
+    assert_eq!(rt; found, Some((5, 22)));
+    assert_eq!(rt; clock.now().count(), 2_126);
     assert!(rt; !stop.load(Ordering::SeqCst));
     assert_eq!(rt; desk.finish().number(), 0);
     Ok(())
