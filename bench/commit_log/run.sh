@@ -1,7 +1,8 @@
 #!/usr/bin/env bash
 # Commits of one change by the list replica over a folder, beside the same four calls of a plain C program on a file in the same
 # folder, in turns; after each turn a second process loads the replica again and compares what it finds with what was committed.
-# Then commits that renew rows over memory, beside more and more rows. Then loads of logs of nearly 64 MiB, beside a C program
+# Then commits that renew rows over memory, in order and scattered, beside more and more rows, and the same renewals in ordered
+# maps of plain Rust. Then loads of logs of nearly 64 MiB, beside a C program
 # that reads the file and decodes its entries plainly, in turns.
 # Usage: run.sh FOLDER [COUNT [TURNS [LOADS]]], after `rt run` in crates/storage_bench built the program.
 set -euo pipefail
@@ -16,6 +17,7 @@ made=$(mktemp -d -p /dev/shm)
 trap 'rm -rf "$folder/log" "$folder/plain" "$work" "$made"' EXIT
 cc -O2 -o "$work/plain" ../gate_log/plain.c
 cc -O2 -o "$work/decode" decode.c
+rustc -O --edition 2021 -o "$work/renew" renew.rs
 mkdir -p "$folder"
 
 # Loads the replica again in a second process, which compares so many rows with what it finds.
@@ -52,11 +54,13 @@ commits() {
     echo "a commit over a folder: $(tell "$work/commits" us)"
 }
 
-# The middle one of many commits; of several turns, the least.
+# The middle one of 1,000 renewals, each so many rows behind the one before it; of several turns, the least.
 renewals() {
-    local rows=$1
-    for _ in $(seq "$loads"); do "$program" replicas memory "$rows" 1000; done | sort -n | head -1 | awk -v r="$rows" '{
-        printf "a commit over memory beside %7d rows: %.2f us\n", r, $1 / 1e3 }'
+    local rows=$1 step=$2 order=$3 ours theirs
+    ours=$(for _ in $(seq "$loads"); do "$program" replicas memory "$rows" 1000 "$step"; done | sort -n | head -1)
+    theirs=$(for _ in $(seq "$loads"); do "$work/renew" "$rows" 1000 "$step"; done | sort -n | head -1)
+    awk -v r="$rows" -v o="$order" -v a="$ours" -v b="$theirs" 'BEGIN {
+        printf "a commit over memory beside %7d rows, %s: %.2f us, in plain maps %.2f us\n", r, o, a / 1e3, b / 1e3 }'
 }
 
 # The milliseconds of a processor that a command took.
@@ -86,7 +90,8 @@ log() {
 }
 
 commits
-for rows in 1000 100000 1000000; do renewals "$rows"; done
+for rows in 1000 100000 1000000; do renewals "$rows" 1 "in order"; done
+for rows in 1000 100000 1000000; do renewals "$rows" 2654435761 scattered; done
 log 639000 1 2
 log 1197000 1000 2
 log 64000 100 125

@@ -1,9 +1,9 @@
 //! Commits to a list replica: `replicas` alone commits rows over a folder, loads them again, compares them with what was
 //! committed, and removes the folder. `append FOLDER ROWS EACH WIDTH` commits so many rows, so many by an entry, each with a
 //! value of so many times eight bytes, and writes how many nanoseconds its commits took; `read FOLDER ROWS WIDTH` compares what
-//! another process finds with these rows; `load FOLDER` writes how many nanoseconds a load took; `memory ROWS COUNT` commits so
-//! many rows to a store in memory, renews so many of them by entries of one change, and writes how many nanoseconds the middle
-//! one of these took.
+//! another process finds with these rows; `load FOLDER` writes how many nanoseconds a load took; `memory ROWS COUNT STEP` commits
+//! so many rows to a store in memory, renews so many of them by entries of one change, each so many rows behind the one before
+//! it, and writes how many nanoseconds the middle one of these took.
 
 ghost use Rattle.std.specs.Prelude.{OnOk};
 ghost use Rattle.row_change.specs.Spelling.{EntryFits};
@@ -36,6 +36,9 @@ const FIRST: i64 = 1;
 /// And as it is renewed.
 const RENEWED: i64 = 2;
 
+/// Rows that stand so far from each other, round the ring of all of them, are scattered: it is the golden section of 2^32.
+const SCATTERED: u32 = 2_654_435_761;
+
 pub(crate) fn run(rt: &HostRuntime, words: &[String]) -> Result<()> {
     let command = words.first().map_or("sample", |word| word.as_str());
     let place = words.get(1).map_or(SAMPLE, |word| word.as_str());
@@ -54,9 +57,9 @@ pub(crate) fn run(rt: &HostRuntime, words: &[String]) -> Result<()> {
         }
         "read" => read(rt, place, count, number(words, 3, WIDTH)?)?,
         "load" => load(rt, place)?,
-        "memory" => memory(rt, place.parse()?, count)?,
+        "memory" => memory(rt, place.parse()?, count, number(words, 3, SCATTERED)?)?,
         _ => bail!(
-            "append FOLDER ROWS EACH WIDTH, read FOLDER ROWS WIDTH, load FOLDER, memory ROWS COUNT, or no words"
+            "append FOLDER ROWS EACH WIDTH, read FOLDER ROWS WIDTH, load FOLDER, memory ROWS COUNT STEP, or no words"
         ),
     }
     Ok(())
@@ -174,13 +177,20 @@ fn commit_all<R: Replica>(
     Ok(nanos)
 }
 
-/// Renews rows out of order by entries of one change, and gives how many nanoseconds each commit took.
-fn renew<R: Replica>(rt: &HostRuntime, replica: &mut R, rows: u32, count: u32) -> Result<Vec<u64>>
+/// Renews rows by entries of one change, each so many rows behind the one before it, and gives how many nanoseconds each
+/// commit took.
+fn renew<R: Replica>(
+    rt: &HostRuntime,
+    replica: &mut R,
+    rows: u32,
+    count: u32,
+    step: u32,
+) -> Result<Vec<u64>>
     requires { R.is_whole replica.old }
 {
     let mut nanos = Vec::new(rt.alloc());
     for at in 0..count {
-        let row = at.wrapping_mul(2654435761) % rows.max(1);
+        let row = at.wrapping_mul(step) % rows.max(1);
         let word = word_of(rt.alloc(), row, 1, WIDTH, RENEWED)?;
         nanos.push(commit_word(rt, replica, word.as_slice())?)?;
     }
@@ -276,13 +286,13 @@ fn load(rt: &HostRuntime, folder: &str) -> Result<()> {
 }
 
 /// Writes how long the middle one of many commits of one change took beside so many rows in memory.
-fn memory(rt: &HostRuntime, rows: u32, count: u32) -> Result<()> {
+fn memory(rt: &HostRuntime, rows: u32, count: u32, step: u32) -> Result<()> {
     let store = MemStore::formatted(rt.alloc())?;
     let Ok((mut replica, _)) = ListReplica::load(rt.alloc(), store) else {
         bail!("not loaded");
     };
     let _nanos = commit_all(rt, &mut replica, rows, PART, WIDTH)?;
-    let mut nanos = renew(rt, &mut replica, rows, count)?;
+    let mut nanos = renew(rt, &mut replica, rows, count, step)?;
     nanos.sort()?;
     println!(rt; "{}", nanos.get(nanos.len() / 2).copied().unwrap_or(0))?;
     Ok(())
