@@ -6,6 +6,8 @@
 # that reads the file and decodes its entries plainly, in turns.
 # Usage: run.sh FOLDER [COUNT [TURNS [LOADS]]], after `rt run` in crates/storage_bench built the program.
 set -euo pipefail
+# All keep the memory that they free, as a process does that holds more: else the times tell how often the C library gives memory back.
+export MALLOC_TRIM_THRESHOLD_=1000000000 MALLOC_MMAP_THRESHOLD_=33554432
 cd "$(dirname "$0")"
 folder=${1:?a folder on the disk to measure}
 count=${2:-300}

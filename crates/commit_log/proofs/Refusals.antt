@@ -6,8 +6,8 @@ use Rattle.gate_log.specs.declared.error.GateError.TheVariants as gates
 use Rattle.row_change.specs.declared.entry.LogEntry.{LogEntry}
 use Rattle.commit_log.specs.declared.error.LogError.TheVariants.{Failed}
 use Rattle.commit_log.specs.Errors.{log_error}
-use Rattle.commit_log.specs.Format.{AreEntries, BreaksEntry, BreaksInWord}
-use Rattle.commit_log.proofs.Spellings.{at}
+use Rattle.commit_log.specs.Format.{AreEntries, BreaksEntry}
+use Rattle.commit_log.proofs.Spellings.{BreaksInWord, at}
 
 pub not_failed : (e : GateError) → log_error e ≡ Failed → e ≡ gates.Failed
 not_failed gates.Failed is = refl

@@ -1,12 +1,10 @@
 -- The words of a log, one after another, and their entries.
 use Rattle.std.proofs.Common.{◌≡◌, ℕ, zero, suc, ◌+◌, ◌^◌, ◌<◌, Option, Some, None, List, [], ◌∷◌, ◌++◌, length, get_or, take, refl, sym, ◌∙◌, ap, subst, arith, append_assoc, length-append}
 use Rattle.std.proofs.Math.Seq.{take-suc}
-use Rattle.std.specs.List.{AllByRecursion}
 use Rattle.gate_log.specs.Format.{spelling, spellings, AreShort, IsFound}
 use Rattle.row_change.specs.declared.entry.LogEntry.{LogEntry}
 use Rattle.row_change.specs.Grammar.{IsEntry}
-use Rattle.row_change.specs.Spelling.{EntryFits}
-use Rattle.commit_log.specs.Format.{AreEntries, BreaksInWord, BreaksInEntry}
+use Rattle.commit_log.specs.Format.{AreEntries, BreaksEntry, BreaksInEntry}
 
 -- ---- one word more
 
@@ -26,10 +24,6 @@ entries_push [] [] w e each is = (is, tt)
 entries_push [] (f ∷ es) w e each is = absurd each
 entries_push (x ∷ ws) [] w e each is = absurd each
 entries_push (x ∷ ws) (f ∷ es) w e each is = (each.0, entries_push ws es w e each.1 is)
-
-pub fits_push : (es : List LogEntry) (e : LogEntry) → AllByRecursion EntryFits es → EntryFits e → AllByRecursion EntryFits (es ++ e ∷ [])
-fits_push [] e fit fits = (fits, tt)
-fits_push (f ∷ es) e fit fits = (fit.0, fits_push es e fit.1 fits)
 
 -- ---- one of the words
 
@@ -72,6 +66,16 @@ short_at (w ∷ ws) zero short inside = short.0
 short_at (w ∷ ws) (suc i) short inside = short_at ws i short.1 (omega arith)
 
 -- ---- a word that is no entry's
+
+-- Among words, those before one are entries', and that one is none: it breaks at this place of the file.
+pub record BreaksInWord (words : List (List ℕ)) (place : ℕ) : Type 0 where
+  pub index : ℕ
+  pub entries : List LogEntry
+  pub offset : ℕ
+  pub inside : index < length words
+  pub each : AreEntries (take index words) entries
+  pub breaks : BreaksEntry (get_or words index []) offset
+  pub there : place ≡ length (spellings (take index words)) + 5 + offset
 
 -- what is found begins with the words
 pub record Begins (words : List (List ℕ)) (file : List ℕ) : Type 0 where

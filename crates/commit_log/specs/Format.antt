@@ -1,5 +1,5 @@
 -- The format of a commit log: a gate log in which each word is that of an entry.
-use Rattle.std.specs.Prelude.{◌≡◌, ◌⊎◌, ℕ, ◌+◌, ◌^◌, ◌<◌, List, [], ◌∷◌, ◌++◌, length, take, slice_index_or, Err}
+use Rattle.std.specs.Prelude.{◌≡◌, ◌⊎◌, ℕ, ◌+◌, ◌^◌, ◌<◌, List, [], ◌∷◌, ◌++◌, length, Err}
 use Rattle.gate_log.specs.Format.{spelling, spellings, AreShort, Reads, BreaksBehind}
 use Rattle.row_change.specs.declared.entry.LogEntry.{LogEntry}
 use Rattle.row_change.specs.Grammar.{IsEntry}
@@ -33,16 +33,6 @@ pub record BreaksEntry (word : List ℕ) (offset : ℕ) : Type 0 where
   pub error : CodecError
   pub refused : entry_in word ≡ Err error
   pub there : IsAt error offset
-
--- Among words, those before one are entries', and that one is none: it breaks at this place of the file.
-pub record BreaksInWord (words : List (List ℕ)) (place : ℕ) : Type 0 where
-  pub index : ℕ
-  pub entries : List LogEntry
-  pub offset : ℕ
-  pub inside : index < length words
-  pub each : AreEntries (take index words) entries
-  pub breaks : BreaksEntry (slice_index_or words index []) offset
-  pub there : place ≡ length (spellings (take index words)) + 5 + offset
 
 -- Behind entries stands a word that is none: it breaks at this place. What is behind the word counts for nothing.
 pub record BreaksInEntry (place : ℕ) (file : List ℕ) : Type 0 where

@@ -5,8 +5,9 @@
 mod error;
 mod laws;
 mod log;
-mod words;
+mod reading;
 
 pub use error::{LogError, ReserveError};
 pub use laws::{appended_entry_is_read, reads_as_one_list};
-pub use log::{CommitLog, LogEntries};
+pub use log::CommitLog;
+pub use reading::LogReading;

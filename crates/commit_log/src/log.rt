@@ -1,28 +1,23 @@
 //! The log.
 
-ghost use Rattle.std.specs.Prelude.{◌≡◌, ◌≢◌, ◌==◌, ℕ, ◌+◌, ◌^◌, ◌<◌, ◌≤◌, ◌↔◌, List, [], length, None, Err, IsOk, IfOk, OnOk, OnErr, IsErrOf};
-ghost use Rattle.std.specs.List.{AllByRecursion};
+ghost use Rattle.std.specs.Prelude.{◌≡◌, ◌≢◌, ◌==◌, ℕ, ◌+◌, ◌^◌, ◌<◌, ◌≤◌, ◌↔◌, None, Err, IsOk, IfOk, OnOk, OnErr, IsErrOf};
 ghost use Rattle.cs_base.specs.Faults.{HasRisen};
 ghost use Rattle.cs_store.specs.Faults.{HasCause};
 ghost use Rattle.cs_store.specs.Disk.{Stays, IsSettled, SameFiles, Passes, LeavesOnly};
-ghost use Rattle.gate_log.specs.Format.{IsFound};
+ghost use Rattle.gate_log.specs.Format.{Reads, IsFound};
 ghost use Rattle.gate_log.specs.Place.{IsAtRest, CanAppend};
 ghost use Rattle.row_change.specs.Lengths.{entry_length};
 ghost use Rattle.row_change.specs.Spelling.{EntryFits};
-ghost use Rattle.commit_log.specs.Format.{AreEntries, ReadsEntries, IsDamaged, Adds, IsBeforeOrAfter, ReadsAlike};
+ghost use Rattle.commit_log.specs.Format.{Adds, IsBeforeOrAfter};
 ghost use Rattle.commit_log.specs.Place.{IsReady};
 
-use crate::words::decode_words;
-use crate::{LogError, ReserveError};
-use cs_base::{Failed, Items};
+use crate::{LogError, LogReading, ReserveError};
+use cs_base::Failed;
 use cs_store::{FileNo, Store};
 use gate_log::{GateError, GateLog, Reading};
 use row_change::{LogEntry, encode_entry};
 use std::alloc::Global;
 use std::marker::Model;
-
-/// The entries of a log, in order.
-pub type LogEntries = Items<LogEntry>;
 
 /// The log of one file of a store: a gate log of encoded entries.
 #[derive(Debug, Drop)]
@@ -46,49 +41,59 @@ impl Model for CommitLog {
 }
 
 impl CommitLog {
-    /// Reads the entries of a file up to the first closed gate, and cuts the file behind that gate: the four store calls
-    /// of the gate log. The file is read in one piece. Damage is told where it comes first in the file, that of an entry
-    /// before that of a gate behind it, and leaves the file as it is. A crash at any moment leaves the same entries.
-    pub fn load<S: Store>(
-        alloc: Global,
-        store: &mut S,
-        f: FileNo,
-    ) -> Result<(CommitLog, LogEntries), LogError>
+    /// Reads a file in one piece: two calls of the store. It changes nothing, and decodes none of the entries.
+    pub fn read<S: Store>(alloc: Global, store: &mut S, f: FileNo) -> Result<LogReading, LogError>
         // After a restart, what is read is what is on the disk.
         requires { S.is_honest → IsSettled f (S.disk store.old) }
 
-        ensures entries { IfOk result (λ r. S.is_honest → ReadsEntries r.1 ((S.disk store.old).seen f)) }
-        ensures same_entries { IfOk result (λ r. S.is_honest → ReadsEntries r.1 ((S.disk store.new).seen f)) }
-        // Each can be encoded again.
-        ensures fit { IfOk result (λ r. AllByRecursion EntryFits r.1) }
-        ensures at_rest { IfOk result (λ r. S.is_honest → IsAtRest r.0.place.gate ((S.disk store.new).seen f)) }
+        ensures found { IfOk result (λ r. S.is_honest → IsFound r.gates.entries r.gates.damage ((S.disk store.old).seen f)) }
+        ensures file { IfOk result (λ r. r.gates.file ≡ f) }
+        ensures same { result ≢ Err LogError.Failed → S.is_honest → SameFiles (S.disk store.old) (S.disk store.new) }
         ensures settled { OnOk result (S.is_honest → IsSettled f (S.disk store.new)) }
-        ensures others { OnOk result (S.is_honest → (k : ℕ) → k ≢ f → (S.disk store.new).seen k ≡ (S.disk store.old).seen k) }
-        ensures file { IfOk result (λ r. r.0.place.file ≡ f) }
-
-        // A crash at any moment leaves the same entries.
-        ensures any_moment { S.is_honest → LeavesOnly f (ReadsAlike ((S.disk store.old).seen f)) (S.disk store.old) (S.disk store.new) }
-
-        ensures damaged { (p : ℕ) → IsErrOf result (LogError.Damaged p) → S.is_honest → IsDamaged p ((S.disk store.old).seen f) }
-        ensures refused { OnErr result (result ≢ Err LogError.Failed → S.is_honest → SameFiles (S.disk store.old) (S.disk store.new)) }
+        ensures any_moment { S.is_honest → LeavesOnly f (Stays ((S.disk store.old).seen f)) (S.disk store.old) (S.disk store.new) }
+        // Damage is told where the entries are decoded.
+        ensures damaged { (p : ℕ) → IsErrOf result (LogError.Damaged p) → ⊥ }
         ensures failed { IsErrOf result LogError.Failed → HasRisen (S.faults store.old) (S.faults store.new) }
         ensures faults { S.faults store.old ≤ S.faults store.new }
-        ensures counted { OnOk result (S.calls store.new ≡ S.calls store.old + 4) }
-        ensures at_most { S.calls store.new ≤ S.calls store.old + 4 }
-        ensures not_cut { OnErr result (result ≢ Err LogError.Failed → S.calls store.new ≤ S.calls store.old + 2) }
-        ensures surely { (m n : ℕ) → n + 4 ≤ m → S.spares store.old m → (result ≢ Err LogError.Failed) × S.spares store.new n }
+        ensures counted { OnOk result (S.calls store.new ≡ S.calls store.old + 2) }
+        ensures at_most { S.calls store.new ≤ S.calls store.old + 2 }
+        ensures surely { (m n : ℕ) → n + 2 ≤ m → S.spares store.old m → (result ≢ Err LogError.Failed) × S.spares store.new n }
         ensures room { (k : ℕ) → S.reserved store.old k ≤ S.reserved store.new k }
     {
-        let reading = Reading::of(alloc, store, f)?;
-        let entries = entries_in(alloc, &reading)?;
-        let gates = GateLog::cut(alloc, store, &reading)?;
-        let log = CommitLog {
+        let gates = Reading::of(alloc, store, f)?;
+        Ok(LogReading { gates })
+    }
+
+    /// Cuts the file that was read behind its first closed gate, on the disk: two calls of the store. It takes no memory.
+    /// A crash at any moment leaves a file of the same words, and so of the same entries.
+    pub fn cut<S: Store>(
+        alloc: Global,
+        store: &mut S,
+        reading: &LogReading,
+    ) -> Result<CommitLog, Failed>
+        requires whole { reading.now.gates.damage ≡ None }
+        requires reads { S.is_honest → Reads reading.now.gates.entries ((S.disk store.old).seen reading.now.gates.file) }
+        requires settled { S.is_honest → IsSettled reading.now.gates.file (S.disk store.old) }
+
+        ensures same_entries { OnOk result (S.is_honest → Reads reading.now.gates.entries ((S.disk store.new).seen reading.now.gates.file)) }
+        ensures at_rest { IfOk result (λ log. S.is_honest → IsAtRest log.place.gate ((S.disk store.new).seen reading.now.gates.file)) }
+        ensures settled { OnOk result (S.is_honest → IsSettled reading.now.gates.file (S.disk store.new)) }
+        ensures others { OnOk result (S.is_honest → (k : ℕ) → k ≢ reading.now.gates.file → (S.disk store.new).seen k ≡ (S.disk store.old).seen k) }
+        ensures file { IfOk result (λ log. log.place.file ≡ reading.now.gates.file) }
+        ensures any_moment { S.is_honest → LeavesOnly reading.now.gates.file (Reads reading.now.gates.entries) (S.disk store.old) (S.disk store.new) }
+        ensures cause { HasCause (S.faults store.old) (S.faults store.new) result }
+        ensures counted { OnOk result (S.calls store.new ≡ S.calls store.old + 2) }
+        ensures at_most { S.calls store.new ≤ S.calls store.old + 2 }
+        ensures surely { (m n : ℕ) → n + 2 ≤ m → S.spares store.old m → IsOk result × S.spares store.new n }
+        ensures room { (k : ℕ) → S.reserved store.old k ≤ S.reserved store.new k }
+    {
+        let gates = GateLog::cut(alloc, store, &reading.gates)?;
+        Ok(CommitLog {
             gates,
-            file: f,
+            file: reading.gates.file,
             word: Vec::new(alloc),
             alloc,
-        };
-        Ok((log, entries))
+        })
     }
 
     /// The length of the log's file.
@@ -164,24 +169,6 @@ impl CommitLog {
         ensures store_room { (k : ℕ) → S.reserved store.old k ≤ S.reserved store.new k }
     {
         self.gates.append(store, &self.word)
-    }
-}
-
-/// The entries of a file that was read, unless it is damaged. The damage of an entry is told before that of a gate behind it.
-fn entries_in(alloc: Global, reading: &Reading) -> Result<LogEntries, LogError>
-    ensures whole { OnOk result (reading.now.damage ≡ None) }
-    ensures entries { IfOk result (λ entries. AreEntries reading.now.entries entries) }
-    ensures fit { IfOk result (AllByRecursion EntryFits) }
-    ensures damaged { (file : List ℕ) → IsFound reading.now.entries reading.now.damage file → (p : ℕ) → IsErrOf result (LogError.Damaged p) → IsDamaged p file }
-    ensures failed { IsErrOf result LogError.Failed → ⊥ }
-{
-    let entries = decode_words(alloc, &reading.entries)?;
-    match reading.damage {
-        Some(place) => {
-            drop(entries);
-            Err(LogError::Damaged(place))
-        }
-        None => Ok(entries),
     }
 }
 

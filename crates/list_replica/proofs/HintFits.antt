@@ -1,6 +1,6 @@
 -- Each hint that the entries of a log keep can be written, as each of their items can.
 use Rattle.std.proofs.Common.{◌≡◌, ◌==◌, inl, inr, List, [], ◌∷◌, Contains, ap, subst, sym, refl}
-use Rattle.std.specs.Prelude.{not, ◌&&◌, Result, Ok, Err, IfOk}
+use Rattle.std.specs.Prelude.{not, ◌&&◌}
 use Rattle.std.specs.List.{AllByRecursion}
 use Rattle.std.proofs.lemmas.Bool.{eq-eqb}
 use Rattle.std.proofs.lemmas.List.Elements.{Contains-push_cases}
@@ -58,7 +58,3 @@ told_there d kept is h there =
 pub loaded_fit : (es : List Entered) (entries : List LogEntry) (kept : Kept) → AllByRecursion EntryFits entries → entries_of es ≡ entries → IsKeptOf (kept_by es) kept → HintsFit kept.hints
 loaded_fit es entries kept fits are is h there =
     entries_fit es formatted (subst (λ (l : List LogEntry). AllByRecursion EntryFits l) (sym are) fits) (λ x none. absurd (contains_nil x none)) h (told_there (kept_by es) kept is h there)
-
-pub if_ok_both : {T E : Type 0} {P Q R : T → Type 0} (r : Result T E) → IfOk r P → IfOk r Q → ((t : T) → P t → Q t → R t) → IfOk r R
-if_ok_both (Ok t) p q to = to t p q
-if_ok_both (Err e) p q to = p

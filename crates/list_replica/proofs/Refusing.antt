@@ -1,6 +1,5 @@
 -- A disk that a refusal hands back.
-use Rattle.std.proofs.Common.{◌≡◌, Result, Ok, Err}
-use Rattle.std.specs.Prelude.{IfErr}
+use Rattle.std.proofs.Common.{◌≡◌, Ok, Err}
 use Rattle.std.specs.Result.{IsErrOf}
 use Rattle.replica.specs.declared.error.LoadError.{LoadError}
 use Rattle.replica.specs.declared.error.LoadError.TheVariants.{Failed, NoMemory}
@@ -10,10 +9,6 @@ same_failed a b e = cc
 
 pub same_no_memory : {S A : Type 0} (a b : S) → IsErrOf {T = A} {E = LoadError S} (Err (NoMemory a)) (NoMemory b) → a ≡ b
 same_no_memory a b e = cc
-
-pub no_memory_is : {S A : Type 0} (r : Result A (LoadError S)) (store s : S) → IfErr r (λ e. e ≡ NoMemory store) → IsErrOf r (NoMemory s) → store ≡ s
-no_memory_is (Ok x) store s refused is = cc
-no_memory_is (Err e) store s refused is = cc
 
 -- the same refusal of a call that gives something else
 pub refused_as : {S A B : Type 0} (e d : LoadError S) → IsErrOf {T = A} {E = LoadError S} (Err e) d → IsErrOf {T = B} {E = LoadError S} (Err e) d

@@ -1,8 +1,9 @@
 -- What an item makes of what the entries before it made.
-use Rattle.std.proofs.Common.{◌≡◌, ◌≢◌, ◌↔◌, ℕ, ◌==◌, ◌++◌, inl, inr, Bool, true, false, Some, List, [], ◌∷◌, Contains, refl, sym, ◌∙◌, ap, subst, eqb-true}
+use Rattle.std.proofs.Common.{◌≡◌, ◌≢◌, ◌↔◌, ℕ, ◌==◌, ◌++◌, inl, inr, Bool, true, false, Some, List, [], ◌∷◌, take, Contains, refl, sym, ◌∙◌, ap, subst, eqb-true}
 use Rattle.std.specs.Prelude.{map, Vec, nat_lt, if◌then◌else◌, filter, not}
 use Rattle.std.specs.declared.alloc.Global.{Global}
 use Rattle.std.specs.BTreeMap.{BTreeMap, get, IsOrdered}
+use Rattle.std.specs.List.{AllByRecursion}
 use Rattle.std.specs.List.Sorted.{IsStrictlySortedBy}
 use Rattle.std.specs.Ordering.{nat_cmp}
 use Rattle.std.proofs.lemmas.Bool.{eq-eqb}
@@ -22,6 +23,8 @@ use Rattle.row_change.specs.declared.entry.LogItem.TheVariants.{Data, Paxos, Hin
 use Rattle.row_change.specs.declared.entry.LogItem.TheVariants as item
 use Rattle.row_change.specs.declared.entry.Mark.{Mark}
 use Rattle.row_change.specs.declared.entry.PaxosRow.{PaxosRow}
+use Rattle.row_change.specs.Spelling.{EntryFits}
+use Rattle.commit_log.specs.Format.{AreEntries}
 use Rattle.durable_state.specs.declared.parts.LastNumber.{LastNumber}
 use Rattle.durable_state.specs.declared.parts.RowAt.{RowAt}
 use Rattle.durable_state.specs.State.{Stored, Durable, IsSameKept, row_at, hints_of, last_of, changes_of, formatted, Holds}
@@ -250,6 +253,25 @@ goes_on r q entry s more e = subst (λ (es : List Entered). Shows q (kept_by es)
 
 pub entries_on : (old new : List Entered) (entry : LogEntry) (front : List LogEntry) → entries_of old ≡ front → new ≡ old ++ (entry, tt) ∷ [] → entries_of new ≡ front ++ entry ∷ []
 entries_on old new entry front so_far e = ap entries_of e ∙ entries_push old (entry, tt) ∙ ap (λ (l : List LogEntry). l ++ entry ∷ []) so_far
+
+-- ---- the entries of which a log has the words
+
+pub each_none : (words : List (List ℕ)) (es : List Entered) → es ≡ [] → AreEntries (take 0 words) (entries_of es)
+each_none words es none = subst (λ (l : List Entered). AreEntries [] (entries_of l)) (sym none) tt
+
+pub fit_none : (es : List Entered) → es ≡ [] → AllByRecursion EntryFits (entries_of es)
+fit_none es none = subst (λ (l : List Entered). AllByRecursion EntryFits (entries_of l)) (sym none) tt
+
+pub each_on : (words : List (List ℕ)) (old new : List Entered) (entry : LogEntry) → AreEntries words (entries_of old ++ entry ∷ []) → new ≡ old ++ (entry, tt) ∷ [] → AreEntries words (entries_of new)
+each_on words old new entry each e = subst (λ (l : List LogEntry). AreEntries words l) (sym (entries_on old new entry (entries_of old) refl e)) each
+
+fit_push : (es : List LogEntry) (entry : LogEntry) → AllByRecursion EntryFits es → EntryFits entry → AllByRecursion EntryFits (es ++ entry ∷ [])
+fit_push [] entry fit fits = (fits, tt)
+fit_push (f ∷ es) entry fit fits = (fit.0, fit_push es entry fit.1 fits)
+
+pub fit_on : (old new : List Entered) (entry : LogEntry) → AllByRecursion EntryFits (entries_of old) → EntryFits entry → new ≡ old ++ (entry, tt) ∷ [] → AllByRecursion EntryFits (entries_of new)
+fit_on old new entry fit fits e =
+    subst (λ (l : List LogEntry). AllByRecursion EntryFits l) (sym (entries_on old new entry (entries_of old) refl e)) (fit_push (entries_of old) entry fit fits)
 
 -- where only the entries are others
 pub items_from : (r r' q : Replay) (items : List LogItem) → r'.contents ≡ r.contents → r'.ceiling ≡ r.ceiling → r'.rows ≡ r.rows → r'.hints ≡ r.hints → r'.numbers ≡ r.numbers → r'.marks ≡ r.marks → ShowsItems items r' q → ShowsItems items r q

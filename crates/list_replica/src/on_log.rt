@@ -1,6 +1,12 @@
 //! The replica.
 
-ghost use Rattle.std.specs.Prelude.{◌≡◌, IfOk, IfErr};
+ghost use Rattle.std.specs.Prelude.{◌≡◌, ◌≢◌, ℕ, ◌+◌, ◌≤◌, Err, IfOk, OnOk, OnErr, IsErrOf};
+ghost use Rattle.std.specs.List.{AllByRecursion};
+ghost use Rattle.cs_base.specs.Faults.{HasRisen};
+ghost use Rattle.cs_store.specs.Disk.{IsSettled, SameFiles, LeavesOnly};
+ghost use Rattle.gate_log.specs.Place.{IsAtRest};
+ghost use Rattle.row_change.specs.Spelling.{EntryFits};
+ghost use Rattle.commit_log.specs.Format.{ReadsEntries, IsDamaged, ReadsAlike};
 ghost use Rattle.replica.specs.Kept.{ArriveAllAt, ArriveAtOnce, IsInOrder, IsKeptOf};
 ghost use Rattle.list_replica.specs.Keeping.{entries_of};
 ghost use Rattle.list_replica.specs.Memtables.{committed, kept_in, IsSound};
@@ -10,7 +16,7 @@ use crate::memtable::Memtable;
 use crate::replay::take_up;
 use cell_merge::Content;
 use changes::{Bound, Partition};
-use commit_log::{CommitLog, LogEntries, LogError, ReserveError};
+use commit_log::{CommitLog, LogError, ReserveError};
 use cs_base::{Failed, Micros, Range};
 use cs_store::{FileNo, Store};
 use replica::{
@@ -55,34 +61,35 @@ fn arrival_of(entry: &LogEntry) -> Micros
     Micros::new(0)
 }
 
-/// Takes in the entries of a log that was read.
-fn begin<S: Store + Drop>(
+/// Reads a log and takes its entries in, one after another, and then cuts its file behind them: two calls of the store,
+/// and two more where it isn't damaged and there is memory for what the entries make.
+fn load_log<S: Store>(
     alloc: Global,
-    store: S,
-    log: CommitLog,
-    entries: LogEntries,
-) -> Result<(ListReplica<S>, Kept), LoadError<S>>
-    ensures store { IfOk result (λ r. r.0.store ≡ store) }
-    ensures log { IfOk result (λ r. r.0.log ≡ log) }
-    ensures since_flush { IfOk result (λ r. r.0.since_flush ≡ None) }
-    ensures sound { IfOk result (λ r. IsSound r.0.memtable) }
-    ensures committed { IfOk result (λ r. entries_of (committed r.0.memtable) ≡ entries) }
-    ensures kept { IfOk result (λ r. IsKeptOf (kept_in r.0.memtable) r.1) }
-    ensures in_order { IfOk result (λ r. IsInOrder r.1) }
-    ensures refused { IfErr result (λ e. e ≡ LoadError.NoMemory store) }
+    store: &mut S,
+    f: FileNo,
+) -> Result<(CommitLog, Memtable, Kept), LogError>
+    requires { S.is_honest → IsSettled f (S.disk store.old) }
+
+    ensures entries { IfOk result (λ r. S.is_honest → ReadsEntries (entries_of (committed r.1)) ((S.disk store.old).seen f)) }
+    ensures same_entries { IfOk result (λ r. S.is_honest → ReadsEntries (entries_of (committed r.1)) ((S.disk store.new).seen f)) }
+    ensures fit { IfOk result (λ r. AllByRecursion EntryFits (entries_of (committed r.1))) }
+    ensures sound { IfOk result (λ r. IsSound r.1) }
+    ensures kept { IfOk result (λ r. IsKeptOf (kept_in r.1) r.2) }
+    ensures in_order { IfOk result (λ r. IsInOrder r.2) }
+    ensures at_rest { IfOk result (λ r. S.is_honest → IsAtRest r.0.place.gate ((S.disk store.new).seen f)) }
+    ensures settled { OnOk result (S.is_honest → IsSettled f (S.disk store.new)) }
+    ensures file { IfOk result (λ r. r.0.place.file ≡ f) }
+    ensures any_moment { S.is_honest → LeavesOnly f (ReadsAlike ((S.disk store.old).seen f)) (S.disk store.old) (S.disk store.new) }
+    ensures damaged { (p : ℕ) → IsErrOf result (LogError.Damaged p) → S.is_honest → IsDamaged p ((S.disk store.old).seen f) }
+    ensures refused { OnErr result (result ≢ Err LogError.Failed → S.is_honest → SameFiles (S.disk store.old) (S.disk store.new)) }
+    ensures failed { IsErrOf result LogError.Failed → HasRisen (S.faults store.old) (S.faults store.new) }
+    ensures faults { S.faults store.old ≤ S.faults store.new }
+    ensures surely { (m n : ℕ) → n + 4 ≤ m → S.spares store.old m → (result ≢ Err LogError.Failed) × S.spares store.new n }
 {
-    match take_up(alloc, entries) {
-        Ok((memtable, kept)) => {
-            let replica = ListReplica {
-                store,
-                log,
-                memtable,
-                since_flush: None,
-            };
-            Ok((replica, kept))
-        }
-        Err(_) => Err(LoadError::NoMemory(store)),
-    }
+    let reading = CommitLog::read(alloc, store, f)?;
+    let (memtable, kept) = take_up(alloc, &reading)?;
+    let log = CommitLog::cut(alloc, store, &reading)?;
+    Ok((log, memtable, kept))
 }
 
 impl<S: Store + Drop> Replica for ListReplica<S> {
@@ -131,8 +138,16 @@ impl<S: Store + Drop> Replica for ListReplica<S> {
 
     fn load(alloc: Global, store: S) -> Result<(ListReplica<S>, Kept), LoadError<S>> {
         let mut store = store;
-        match CommitLog::load(alloc, &mut store, log_file()) {
-            Ok((log, entries)) => begin(alloc, store, log, entries),
+        match load_log(alloc, &mut store, log_file()) {
+            Ok((log, memtable, kept)) => {
+                let replica = ListReplica {
+                    store,
+                    log,
+                    memtable,
+                    since_flush: None,
+                };
+                Ok((replica, kept))
+            }
             Err(LogError::Failed) => Err(LoadError::Failed(store)),
             Err(LogError::Damaged(place)) => Err(LoadError::Damaged(store, log_file(), place)),
             Err(LogError::NoMemory) => Err(LoadError::NoMemory(store)),

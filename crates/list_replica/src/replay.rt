@@ -1,9 +1,13 @@
 //! The entries of a log, taken in one after another by a load.
 
-ghost use Rattle.std.specs.Prelude.{◌≡◌, ◌∷◌, ◌++◌, [], map, OnOk, IfOk};
+ghost use Rattle.std.specs.Prelude.{◌≡◌, ℕ, ◌∷◌, ◌++◌, List, [], map, None, OnOk, IfOk, IsErrOf};
 ghost use Rattle.std.specs.BTreeMap.{IsOrdered};
+ghost use Rattle.std.specs.List.{AllByRecursion};
 ghost use Rattle.std.specs.Ordering.{nat_cmp};
 ghost use Rattle.changes.specs.Order.{partition_cmp};
+ghost use Rattle.gate_log.specs.Format.{IsFound};
+ghost use Rattle.row_change.specs.Spelling.{EntryFits};
+ghost use Rattle.commit_log.specs.Format.{AreEntries, IsDamaged};
 ghost use Rattle.durable_state.specs.State.{formatted, Durable as durable};
 ghost use Rattle.replica.specs.Kept.{IsKeptOf, IsInOrder};
 ghost use Rattle.list_replica.specs.Keeping.{kept_by, entries_of};
@@ -17,7 +21,7 @@ use crate::memtable::Memtable;
 use crate::removing::let_go;
 use cell_merge::Content;
 use changes::{Mutation, Partition};
-use commit_log::LogEntries;
+use commit_log::{LogError, LogReading};
 use cs_base::{Items, Micros, NodeId};
 use durable_state::{LastNumber, RowAt};
 use http_server::Log;
@@ -166,13 +170,17 @@ impl Replay {
         self.take_items(alloc, entry.items.into_vec())
     }
 
-    /// Takes in the entries of a log, in order.
-    fn of(alloc: Global, entries: LogEntries) -> Result<Replay, AllocError>
+    /// Decodes the entries of a log and takes them in, one after another: the memory of one is free again before the next.
+    fn of(alloc: Global, reading: &LogReading) -> Result<Replay, LogError>
         ensures shows { IfOk result (λ r. Shows r (kept_by (replayed r))) }
-        ensures replayed { IfOk result (λ r. entries_of (replayed r) ≡ entries) }
+        ensures entries { IfOk result (λ r. AreEntries reading.now.gates.entries (entries_of (replayed r))) }
+        ensures fit { IfOk result (λ r. AllByRecursion EntryFits (entries_of (replayed r))) }
+        ensures damaged { (file : List ℕ) → IsFound reading.now.gates.entries reading.now.gates.damage file → (p : ℕ) → IsErrOf result (LogError.Damaged p) → IsDamaged p file }
+        ensures failed { IsErrOf result LogError.Failed → ⊥ }
     {
         let mut replay = Replay::new(alloc);
-        for entry in entries.into_vec() {
+        for i in 0..reading.len() {
+            let entry = reading.entry(alloc, i)?;
             replay.take_entry(alloc, entry)?;
         }
         Ok(replay)
@@ -231,14 +239,20 @@ fn list_numbers(alloc: Global, numbers: Numbers) -> Result<Vec<LastNumber>, Allo
     Ok(list)
 }
 
-/// Takes in the entries of a log: the contents that they make, and what they keep beside them.
-pub fn take_up(alloc: Global, entries: LogEntries) -> Result<(Memtable, Kept), AllocError>
+/// Takes in the entries of a log, unless it is damaged: the contents that they make, and what they keep beside them. The
+/// damage of an entry is told before that of a gate behind it.
+pub fn take_up(alloc: Global, reading: &LogReading) -> Result<(Memtable, Kept), LogError>
+    ensures whole { OnOk result (reading.now.gates.damage ≡ None) }
     ensures sound { IfOk result (λ r. IsSound r.0) }
-    ensures committed { IfOk result (λ r. entries_of (committed r.0) ≡ entries) }
+    ensures entries { IfOk result (λ r. AreEntries reading.now.gates.entries (entries_of (committed r.0))) }
+    ensures fit { IfOk result (λ r. AllByRecursion EntryFits (entries_of (committed r.0))) }
     ensures kept { IfOk result (λ r. IsKeptOf (kept_in r.0) r.1) }
     ensures in_order { IfOk result (λ r. IsInOrder r.1) }
+    ensures damaged { (file : List ℕ) → IsFound reading.now.gates.entries reading.now.gates.damage file → (p : ℕ) → IsErrOf result (LogError.Damaged p) → IsDamaged p file }
+    ensures failed { IsErrOf result LogError.Failed → ⊥ }
 {
-    let replay = Replay::of(alloc, entries)?;
+    let replay = Replay::of(alloc, reading)?;
+    reading.check_end()?;
     let (memtable, kept) = replay.finish(alloc)?;
     Ok((memtable, kept))
 }

@@ -1,11 +1,11 @@
 //! Files worked out by hand from the format, and appends that are stopped.
 
-ghost use Rattle.std.specs.Prelude.{◌≤◌, IfOk, OnOk};
+ghost use Rattle.std.specs.Prelude.{◌≡◌, ◌≤◌, IfOk, OnOk};
 ghost use Rattle.cs_store.specs.Disk.{IsSettled};
 ghost use Rattle.cs_store.specs.Mem.{disk_of, IsSameDisk};
 ghost use Rattle.gate_log.specs.Place.{IsAtRest};
 
-use commit_log::{CommitLog, LogEntries, LogError, ReserveError};
+use commit_log::{CommitLog, LogError, LogReading, ReserveError};
 use cs_store::{FileNo, MemStore, Outcome, Store};
 use row_change::{LogEntry, decode_entry};
 use std::alloc::{AllocError, Global};
@@ -114,7 +114,35 @@ pub(crate) fn put(store: &mut MemStore, f: FileNo, bytes: &[u8]) -> Result<(), F
     Ok(())
 }
 
-fn meaning(answer: &Result<(CommitLog, LogEntries), LogError>) -> Found {
+/// All the entries that were read, up to the first damage of one.
+fn decode_all(alloc: Global, reading: &LogReading) -> Result<Vec<LogEntry>, LogError> {
+    let mut entries = Vec::with_capacity(alloc, reading.len())?;
+    for i in 0..reading.len() {
+        let entry = reading.entry(alloc, i)?;
+        entries.push(entry)?;
+    }
+    Ok(entries)
+}
+
+/// Reads a log and cuts its file behind the entries.
+fn load(
+    alloc: Global,
+    store: &mut MemStore,
+    f: FileNo,
+) -> Result<(CommitLog, Vec<LogEntry>), LogError>
+    requires { IsSettled f (disk_of store.old) }
+    ensures file { IfOk result (λ r. r.0.place.file ≡ f) }
+    ensures settled { OnOk result (IsSettled f (disk_of store.new)) }
+    ensures at_rest { IfOk result (λ r. IsAtRest r.0.place.gate ((disk_of store.new).seen f)) }
+{
+    let reading = CommitLog::read(alloc, store, f)?;
+    let entries = decode_all(alloc, &reading)?;
+    reading.check_end()?;
+    let log = CommitLog::cut(alloc, store, &reading)?;
+    Ok((log, entries))
+}
+
+fn meaning(answer: &Result<(CommitLog, Vec<LogEntry>), LogError>) -> Found {
     match answer {
         Ok((_, entries)) => Some(Ok(entries.as_slice().len())),
         Err(LogError::Damaged(place)) => Some(Err(*place)),
@@ -125,7 +153,7 @@ fn meaning(answer: &Result<(CommitLog, LogEntries), LogError>) -> Found {
 /// What a load finds in a file of these bytes.
 fn found(alloc: Global, store: &mut MemStore, f: FileNo, bytes: &[u8]) -> Result<Found, Fail> {
     put(store, f, bytes)?;
-    let answer = CommitLog::load(alloc, store, f);
+    let answer = load(alloc, store, f);
     Ok(meaning(&answer))
 }
 
@@ -187,12 +215,12 @@ fn left(
     store: &mut MemStore,
     f: FileNo,
     outcome: Outcome,
-) -> Result<(CommitLog, LogEntries), Fail>
+) -> Result<(CommitLog, Vec<LogEntry>), Fail>
     ensures settled { IfOk result (λ r. IsSettled r.0.place.file (disk_of store.new)) }
     ensures at_rest { IfOk result (λ r. IsAtRest r.0.place.gate ((disk_of store.new).seen r.0.place.file)) }
 {
     store.crash(outcome);
-    Ok(CommitLog::load(alloc, store, f)?)
+    Ok(load(alloc, store, f)?)
 }
 
 /// What happens at a call of the store.

@@ -1,29 +1,31 @@
-use Rattle.std.proofs.Common.{◌≡◌, ◌∙◌, [], ap}
-use Rattle.std.specs.Vec.Iter.{into_iter_items, into_iter_len}
+use Rattle.std.proofs.Common.{◌≡◌, ◌+◌, Err, take, ap}
+use Rattle.std.proofs.lemmas.Result.{err_from_is_err_and}
+use Rattle.commit_log.specs.declared.error.LogError.{LogError}
+use Rattle.commit_log.specs.declared.error.LogError.TheVariants.{Damaged}
 use Rattle.list_replica.specs.Keeping.{entries_of}
 use Rattle.list_replica.specs.Replays.{replayed}
-use Rattle.list_replica.proofs.Gathering.{split_more, nothing_left, all_taken}
-use Rattle.list_replica.proofs.Replaying.{begins, goes_on, entries_on}
+use Rattle.list_replica.proofs.Replaying.{begins, goes_on, each_none, fit_none, each_on, fit_on}
 use Rattle.list_replica.proofs.replay.Replay.of.Goals as goal
 
-pub loop-entry-init : goal.loop-entry-init
-loop-entry-init c = record {
-  split = c.into_iter-entry-iterator.ensures.into_iter_gives.0 ∙ c.into_vec-entry-items.ensures;
+pub loop-i-init : goal.loop-i-init
+loop-i-init c = record {
   shows = begins c.new-replay.result c.new-replay.ensures.shows c.new-replay.ensures.none;
-  replayed = ap entries_of c.new-replay.ensures.none;
+  each = each_none c.args.reading.now.gates.entries (replayed c.new-replay.result) c.new-replay.ensures.none;
+  fit = fit_none (replayed c.new-replay.result) c.new-replay.ensures.none;
 }
 
-pub loop-entry-preserved : goal.loop-entry-preserved
-loop-entry-preserved c = record {
-  split = split_more c.args.entries c.loop-entry.yielded (into_iter_items c.loop-entry.entry-iterator) (into_iter_items c.next.new.self) c.in-Some.entry c.loop-entry.invariant.split c.in-Some.ensures.steps.0;
-  shows = goes_on c.loop-entry.replay c.take_entry.new.self c.in-Some.entry c.loop-entry.invariant.shows c.in_ok-take_entry.ensures.shows c.in_ok-take_entry.ensures.replayed;
-  replayed = entries_on (replayed c.loop-entry.replay) (replayed c.take_entry.new.self) c.in-Some.entry c.loop-entry.yielded c.loop-entry.invariant.replayed c.in_ok-take_entry.ensures.replayed;
+pub loop-i-preserved : goal.loop-i-preserved
+loop-i-preserved c = record {
+  shows = goes_on c.loop-i.replay c.take_entry.new.self c.in_ok-entry.entry c.loop-i.invariant.shows c.in_ok-take_entry.ensures.shows c.in_ok-take_entry.ensures.replayed;
+  each = each_on (take (c.loop-i.i + 1) c.args.reading.now.gates.entries) (replayed c.loop-i.replay) (replayed c.take_entry.new.self) c.in_ok-entry.entry (c.in_ok-entry.ensures.next (entries_of (replayed c.loop-i.replay)) c.loop-i.invariant.each) c.in_ok-take_entry.ensures.replayed;
+  fit = fit_on (replayed c.loop-i.replay) (replayed c.take_entry.new.self) c.in_ok-entry.entry c.loop-i.invariant.fit c.in_ok-entry.ensures.fits c.in_ok-take_entry.ensures.replayed;
 }
 
 pub take_entry-requires : goal.take_entry-requires
-take_entry-requires c = c.loop-entry.invariant.shows.ordered
+take_entry-requires c = c.loop-i.invariant.shows.ordered
 
-pub returns-clause-replayed : goal.returns-clause-replayed
-returns-clause-replayed c =
-    let none : into_iter_items c.loop-entry.entry-iterator ≡ [] = nothing_left (into_iter_items c.loop-entry.entry-iterator) (into_iter_len c.loop-entry.entry-iterator) c.loop-entry.entry-iterator.rest.ok.0 c.in-None.ensures.steps.0 in
-    c.loop-entry.invariant.replayed ∙ all_taken c.args.entries c.loop-entry.yielded (into_iter_items c.loop-entry.entry-iterator) c.loop-entry.invariant.split none
+pub returns-in_err-entry-clause-damaged : goal.returns-in_err-entry-clause-damaged
+returns-in_err-entry-clause-damaged c file found p is =
+    let e = err_from_is_err_and c.from_residual.result c.from_residual.ensures.1 in
+    let error : c.in_err-entry.field-0.0 ≡ Damaged p = cc (e.1, e.2, is) in
+    c.in_err-entry.ensures.damaged file (entries_of (replayed c.loop-i.replay)) found c.loop-i.invariant.each p (ap (λ (x : LogError). Err x) error)

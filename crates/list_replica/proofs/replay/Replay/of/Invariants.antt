@@ -1,13 +1,15 @@
-use Rattle.std.proofs.Common.{◌≡◌, ◌++◌}
-use Rattle.std.specs.Vec.Iter.{into_iter_items}
+use Rattle.std.proofs.Common.{take}
+use Rattle.std.specs.List.{AllByRecursion}
+use Rattle.row_change.specs.Spelling.{EntryFits}
+use Rattle.commit_log.specs.Format.{AreEntries}
 use Rattle.list_replica.specs.Keeping.{kept_by, entries_of}
 use Rattle.list_replica.specs.Replays.{Shows, replayed}
 use Rattle.list_replica.proofs.replay.Replay.of.Given as goal
 
 -- the entries so far are taken in
-abbrev pub invariant-loop-entry : goal.invariant-loop-entry
-invariant-loop-entry l = record {
-  split : l.yielded ++ into_iter_items l.entry-iterator ≡ l.fn.entries;
+abbrev pub invariant-loop-i : goal.invariant-loop-i
+invariant-loop-i l = record {
   shows : Shows l.replay (kept_by (replayed l.replay));
-  replayed : entries_of (replayed l.replay) ≡ l.yielded;
+  each : AreEntries (take l.i l.reading.gates.entries) (entries_of (replayed l.replay));
+  fit : AllByRecursion EntryFits (entries_of (replayed l.replay));
 }
