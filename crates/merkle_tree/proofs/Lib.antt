@@ -1,0 +1,4 @@
+mod Places
+pub mod Differences
+mod Feeding
+pub mod Hashed

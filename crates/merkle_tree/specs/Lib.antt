@@ -1,0 +1,4 @@
+pub mod Ranges
+pub mod Digests
+pub mod Hashing
+pub mod Laws
