@@ -1,5 +1,5 @@
 -- The leaves in which two lists of digests differ, found one after another.
-use Rattle.std.proofs.Common.{◌≡◌, ℕ, zero, suc, ◌+◌, ◌<◌, ◌≤◌, ◌↔◌, Bool, true, false, cond, not, ltb, eqb, refl, sym, ap, ◌∙◌, arith, List, [], length, get_or, Some}
+use Rattle.std.proofs.Common.{◌≡◌, ℕ, ◌+◌, ◌<◌, ◌≤◌, ◌↔◌, Bool, true, false, not, ltb, eqb, refl, sym, ap, ◌∙◌, arith, List, [], length, get_or, Some}
 use Rattle.std.specs.Prelude.{◌&&◌, ◌||◌, ◌==◌, slice_get}
 use Rattle.std.specs.Cmp.Lexicographic.{pointwise, bytes_decides}
 use Rattle.std.proofs.lemmas.Bool.{eqb-true, eqb-false, lt-ltb, le-ltb, ltb-true, ltb-false}

@@ -1,10 +1,10 @@
 -- Where a token stands in a range, and so in which of its leaves.
-use Rattle.std.proofs.Common.{◌≡◌, ◌⊎◌, inl, inr, ℕ, ◌+◌, ◌-◌, ◌*◌, ◌/◌, ◌%◌, ◌^◌, ◌<◌, ◌≤◌, true, ap₂, ◌∙◌, arith, ℤ, FitsSigned, w64}
+use Rattle.std.proofs.Common.{◌≡◌, ◌⊎◌, inl, inr, ℕ, ◌+◌, ◌-◌, ◌*◌, ◌/◌, ◌%◌, ◌^◌, ◌<◌, ◌≤◌, ap₂, ◌∙◌, arith, ℤ}
 use Rattle.std.proofs.lemmas.Bool.{ltb-true}
 use Rattle.std.proofs.lemmas.Nat.{le-div}
 use Rattle.std.proofs.Math.Nat.{div-lt_iff_lt-mul, div-mul-le_self}
 use Rattle.cs_base.specs.declared.range.Range.{Range}
-use Rattle.cs_base.specs.Ring.{clockwise, width, in_range, leaf_of}
+use Rattle.cs_base.specs.Ring.{clockwise, width, leaf_of}
 use Rattle.cs_base.proofs.Circle.{place, place_below, clockwise_is, width_is}
 use Rattle.merkle_tree.specs.Laws.{LeavesShareOut, LeavesRise}
 use Rattle.merkle_tree.specs.Ranges.{HasTokens, IsWithin}

@@ -1,6 +1,4 @@
-use Rattle.std.proofs.Common.{◌≡◌, ◌↔◌, ◌<◌, ℕ, false, length, List, subst, sym, ap, ◌∙◌}
-use Rattle.std.specs.Prelude.{slice_get}
-use Rattle.cs_base.specs.Quorums.{is_in}
+use Rattle.std.proofs.Common.{◌≡◌, length, sym, ap, ◌∙◌}
 use Rattle.merkle_tree.specs.Digests.{differing}
 use Rattle.merkle_tree.proofs.Differences.{found_where_different}
 use Rattle.merkle_tree.proofs.differing.differing_leaves.Goals as goal

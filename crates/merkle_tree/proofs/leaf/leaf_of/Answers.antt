@@ -1,6 +1,5 @@
-use Rattle.std.proofs.Common.{rules, ◌≡◌, ◌<◌, arith, FitsSigned, w64, ◌*◌, ◌/◌}
+use Rattle.std.proofs.Common.{rules, ◌<◌, FitsSigned, w64, ◌*◌, ◌/◌}
 use Rattle.std.proofs.lemmas.Int.{to_z-of_z}
-use Rattle.cs_base.specs.Ring.{leaf_of as leaf_number}
 use Rattle.merkle_tree.proofs.Places.{leaf_is, shared_out}
 use Rattle.merkle_tree.proofs.leaf.leaf_of.Goals as goal
 
